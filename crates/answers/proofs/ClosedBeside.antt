@@ -40,7 +40,7 @@ use Rattle.texts.specs.FollowedReport.{came_to}
 use Rattle.texts.specs.Happened.{IsOfTrace}
 use Rattle.texts.proofs.GivenOfTrace.{all_come}
 use Rattle.answers.specs.Bytes.{AreBytes}
-use Rattle.answers.specs.Beside.{KeepsCarrying, GivesBytes, HappenedSoFar, IsBeside, AreCountedAlike, ClosesBeside}
+use Rattle.answers.specs.Beside.{KeepsCarrying, GivesOfBytes, HappenedSoFar, IsBeside, AreCountedAlike, ClosesWhole}
 use Rattle.answers.proofs.Vectors.{vec_of}
 use Rattle.answers.proofs.Keeping.{kept-leads}
 use Rattle.answers.proofs.SomeOutcome.{gaps-of_bytes}
@@ -59,7 +59,7 @@ record GivesLast (check : List ℕ → Bool) (setup : FlowSetup) (comings : List
   gave : GaveByRule check setup comings (frames ++ more) counts
 
 -- there is something, where what it keeps is of bytes
-gives_last : (check : List ℕ → Bool) (setup : FlowSetup) (comings : List Coming) (frames : List (List ℕ)) → GivesBytes check setup comings frames
+gives_last : (check : List ℕ → Bool) (setup : FlowSetup) (comings : List Coming) (frames : List (List ℕ)) → GivesOfBytes check setup comings frames
     → GivesLast check setup comings frames
 gives_last check setup comings frames was =
     let flow_record = setup.flow_record in
@@ -310,7 +310,7 @@ module _ (selected : Selection) (made : TableSetup) (others : List HandedIn) (al
 -- so the whole is closed beside the stand-ins
 pub closes_beside : (selected : Selection) (made : TableSetup) (others : List HandedIn) (also : List Given) (entries : List Entry) (handed : List HandedIn) (given : List Given) (happened : List Happening)
     (rest : List Given) (closed : Closed) → IsBeside selected made others also entries handed given happened → All (IsOfTrace made.channels) others
-    → IsReceived any_header made others (also ++ rest) closed → ClosesBeside selected made handed given rest closed
+    → IsReceived any_header made others (also ++ rest) closed → ClosesWhole selected made handed given rest closed
 closes_beside selected made others also entries handed given happened rest closed was each received = record {
   more = more_beside selected made others also entries handed given happened was rest closed received;
   counted = counted_all selected made others also entries handed given happened was rest closed received;

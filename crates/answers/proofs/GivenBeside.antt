@@ -12,7 +12,7 @@ use Rattle.consumer.specs.declared.given.Given.{Given}
 use Rattle.consumer.specs.declared.given.Given.TheVariants.{Frame, Asked}
 use Rattle.consumer.specs.Given.{frame_of, frames_of, request_on, requests_given}
 use Rattle.answers.specs.ToldAlike.{AreGivenFor}
-use Rattle.answers.specs.Beside.{is_given_for}
+use Rattle.answers.specs.Beside.{is_told_if_given}
 
 -- ---- what a test keeps
 
@@ -79,60 +79,60 @@ module _ (selected : Selection) where
 
   module _ (k : ℕ) (is : is_selected selected k ≡ true) where
     -- a frame that is left out is of another flow
-    not_of : (given : Given) → is_given_for selected given ≡ false → frame_of k given ≡ None
+    not_of : (given : Given) → is_told_if_given selected given ≡ false → frame_of k given ≡ None
     not_of (Frame flow frame) out = other_flow flow k frame (λ same. false≢true (sym out ∙ ap (is_selected selected) same ∙ is))
     not_of (Asked request) out = refl
 
-    kept_frames : (given : List Given) → frames_of k (filter (is_given_for selected) given) ≡ frames_of k given
-    kept_frames = picked_of_kept (is_given_for selected) (frame_of k) not_of
+    kept_frames : (given : List Given) → frames_of k (filter (is_told_if_given selected) given) ≡ frames_of k given
+    kept_frames = picked_of_kept (is_told_if_given selected) (frame_of k) not_of
 
-    no_rest_frames : (given : List Given) → frames_of k (filter (left_out (is_given_for selected)) given) ≡ []
-    no_rest_frames = none_of_kept (left_out (is_given_for selected)) (frame_of k) (λ given out. not_of given (not_true (is_given_for selected given) out))
+    no_rest_frames : (given : List Given) → frames_of k (filter (left_out (is_told_if_given selected)) given) ≡ []
+    no_rest_frames = none_of_kept (left_out (is_told_if_given selected)) (frame_of k) (λ given out. not_of given (not_true (is_told_if_given selected given) out))
 
   module _ (k : ℕ) (is : is_selected selected k ≡ false) where
     -- a frame that is kept is of another flow
-    not_kept : (given : Given) → is_given_for selected given ≡ true → frame_of k given ≡ None
+    not_kept : (given : Given) → is_told_if_given selected given ≡ true → frame_of k given ≡ None
     not_kept (Frame flow frame) kept = other_flow flow k frame (λ same. false≢true (sym is ∙ ap (is_selected selected) (sym same) ∙ kept))
     not_kept (Asked request) kept = refl
 
-    no_kept_frames : (given : List Given) → frames_of k (filter (is_given_for selected) given) ≡ []
-    no_kept_frames = none_of_kept (is_given_for selected) (frame_of k) not_kept
+    no_kept_frames : (given : List Given) → frames_of k (filter (is_told_if_given selected) given) ≡ []
+    no_kept_frames = none_of_kept (is_told_if_given selected) (frame_of k) not_kept
 
-    rest_frames : (given : List Given) → frames_of k (filter (left_out (is_given_for selected)) given) ≡ frames_of k given
-    rest_frames = picked_of_kept (left_out (is_given_for selected)) (frame_of k) (λ given out. not_kept given (not_false (is_given_for selected given) out))
+    rest_frames : (given : List Given) → frames_of k (filter (left_out (is_told_if_given selected)) given) ≡ frames_of k given
+    rest_frames = picked_of_kept (left_out (is_told_if_given selected)) (frame_of k) (λ given out. not_kept given (not_false (is_told_if_given selected given) out))
 
   module _ (channel : ℕ) where
     -- no request is left out
-    no_request_out : (given : Given) → is_given_for selected given ≡ false → request_on channel given ≡ None
+    no_request_out : (given : Given) → is_told_if_given selected given ≡ false → request_on channel given ≡ None
     no_request_out (Frame flow frame) out = refl
     no_request_out (Asked request) out = absurd cc
 
-    kept_requests : (given : List Given) → requests_given channel (filter (is_given_for selected) given) ≡ requests_given channel given
-    kept_requests = picked_of_kept (is_given_for selected) (request_on channel) no_request_out
+    kept_requests : (given : List Given) → requests_given channel (filter (is_told_if_given selected) given) ≡ requests_given channel given
+    kept_requests = picked_of_kept (is_told_if_given selected) (request_on channel) no_request_out
 
-    no_rest_requests : (given : List Given) → requests_given channel (filter (left_out (is_given_for selected)) given) ≡ []
-    no_rest_requests = none_of_kept (left_out (is_given_for selected)) (request_on channel) (λ given out. no_request_out given (not_true (is_given_for selected given) out))
+    no_rest_requests : (given : List Given) → requests_given channel (filter (left_out (is_told_if_given selected)) given) ≡ []
+    no_rest_requests = none_of_kept (left_out (is_told_if_given selected)) (request_on channel) (λ given out. no_request_out given (not_true (is_told_if_given selected given) out))
 
   -- ---- with what is given of the other flows
 
   -- the first of the selected flows and of none, and the second of the other flows
   abbrev pub of_both : List Given → List Given → List Given
-  of_both also own = filter (is_given_for selected) also ++ filter (left_out (is_given_for selected)) own
+  of_both also own = filter (is_told_if_given selected) also ++ filter (left_out (is_told_if_given selected)) own
 
-  pub kept_of_both : (also own : List Given) → filter (is_given_for selected) (of_both also own) ≡ filter (is_given_for selected) also
+  pub kept_of_both : (also own : List Given) → filter (is_told_if_given selected) (of_both also own) ≡ filter (is_told_if_given selected) also
   kept_of_both also own =
-      let kept = filter (is_given_for selected) also in
-      let rest = filter (left_out (is_given_for selected)) own in
-      filter-append (is_given_for selected) kept rest
-      ∙ ap (λ (t : List Given). t ++ filter (is_given_for selected) rest) (kept_again (is_given_for selected) also)
-      ∙ ap (λ (t : List Given). kept ++ t) (none_kept_of_rest (is_given_for selected) own) ∙ append-nil kept
+      let kept = filter (is_told_if_given selected) also in
+      let rest = filter (left_out (is_told_if_given selected)) own in
+      filter-append (is_told_if_given selected) kept rest
+      ∙ ap (λ (t : List Given). t ++ filter (is_told_if_given selected) rest) (kept_again (is_told_if_given selected) also)
+      ∙ ap (λ (t : List Given). kept ++ t) (none_kept_of_rest (is_told_if_given selected) own) ∙ append-nil kept
 
   module _ (given also also_more own : List Given) (same : AreGivenFor selected also given) where
     abbrev kept : List Given
-    kept = filter (is_given_for selected) also_more
+    kept = filter (is_told_if_given selected) also_more
 
     abbrev rest : List Given
-    rest = filter (left_out (is_given_for selected)) own
+    rest = filter (left_out (is_told_if_given selected)) own
 
     pub frames_selected : (k : ℕ) → is_selected selected k ≡ true → frames_of k (given ++ of_both also_more own) ≡ frames_of k (also ++ also_more)
     frames_selected k is =

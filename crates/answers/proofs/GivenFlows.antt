@@ -24,7 +24,7 @@ use Rattle.bonded_flows.specs.ByRule.{EndInVerdict, IsLastSkip, IsTold, IsToldLo
 use Rattle.bonded_flows.specs.FlowSetup.{FlowSetup, ruled_flow}
 use Rattle.receiver.specs.Held.{held_from, HoldsByRule}
 use Rattle.answers.specs.Bytes.{AreBytes, Brings}
-use Rattle.answers.specs.Beside.{GivesBytes, KeepsCarrying}
+use Rattle.answers.specs.Beside.{GivesOfBytes, KeepsCarrying}
 use Rattle.answers.proofs.GrownOutcome.{GrownOutcome, grown_outcome}
 use Rattle.answers.proofs.Keeping.{none_kept, kept-leads}
 use Rattle.answers.proofs.RuledEvents.{one-brings}
@@ -77,7 +77,7 @@ module _ (check : List ℕ → Bool) (setup : FlowSetup) where
   flow = ruled_flow setup
 
   -- nothing, where nothing came
-  pub gives_nothing : GivesBytes check setup [] []
+  pub gives_nothing : GivesOfBytes check setup [] []
   gives_nothing =
       let out = outcome-empty check setup.flow_record [] 0 (λ before behind segment. none_before before behind (arrives segment))
       (λ before behind number. none_before before behind (skip_to number)) in
@@ -87,7 +87,7 @@ module _ (check : List ℕ → Bool) (setup : FlowSetup) where
         kept = none_kept AreBytes;
       }
 
-  module _ (comings : List Coming) (frames : List (List ℕ)) (was : GivesBytes check setup comings frames) where
+  module _ (comings : List Coming) (frames : List (List ℕ)) (was : GivesOfBytes check setup comings frames) where
     -- ---- how it stands
 
     -- the number that it expects
@@ -159,7 +159,7 @@ module _ (check : List ℕ → Bool) (setup : FlowSetup) where
       pub gives_more : List (List ℕ)
       gives_more = grown.more
 
-      pub gives_then : GivesBytes check setup (comings ++ coming ∷ []) (frames ++ gives_more)
+      pub gives_then : GivesOfBytes check setup (comings ++ coming ∷ []) (frames ++ gives_more)
       unfolding gives_more grown
       gives_then = record {
         counts = grown.grown;

@@ -22,7 +22,7 @@ use Rattle.receiver.specs.HandedIn.{HandedIn, came, decided, restarted, answered
 use Rattle.receiver.specs.Receiving.{Says}
 use Rattle.texts.specs.Happening.{name_of_input}
 use Rattle.texts.specs.Happened.{flow_admitted}
-use Rattle.answers.specs.Beside.{AreAdmittedFor, AnswersFor, InPlace}
+use Rattle.answers.specs.Beside.{AreAdmittedFor, AnswersInPlaceOf, InPlace}
 
 -- ---- pairs
 
@@ -101,7 +101,7 @@ module _ (chosen : ℕ → Bool) where
   flow_same (Some one) (Some other) are = ap Some are.flow
 
   -- and so is what is replied
-  pub replies_same : (one other : AnsweredInput) (first second : Reply) → AnswersFor chosen one other → Says first one.answer → Says second other.answer
+  pub replies_same : (one other : AnsweredInput) (first second : Reply) → AnswersInPlaceOf chosen one other → Says first one.answer → Says second other.answer
       → flow_admitted second ≡ flow_admitted first
   replies_same one other first second answers says also =
       says_flow second other.answer also ∙ flow_same (admitted_by one.answer) (admitted_by other.answer) answers.admitted ∙ sym (says_flow first one.answer says)
@@ -128,23 +128,23 @@ module _ (chosen : ℕ → Bool) where
   -- ---- one thing in place of another
 
   -- one input more, on this channel or on another
-  zip_if : (own : Bool) (one other : AnsweredInput) (ones others : List AnsweredInput) → AnswersFor chosen one other → AllZip (AnswersFor chosen) ones others
-      → AllZip (AnswersFor chosen) (cons_option (if own then Some one else None) ones) (cons_option (if own then Some other else None) others)
+  zip_if : (own : Bool) (one other : AnsweredInput) (ones others : List AnsweredInput) → AnswersInPlaceOf chosen one other → AllZip (AnswersInPlaceOf chosen) ones others
+      → AllZip (AnswersInPlaceOf chosen) (cons_option (if own then Some one else None) ones) (cons_option (if own then Some other else None) others)
   zip_if true one other ones others here rest = (here, rest)
   zip_if false one other ones others here rest = rest
 
   -- on each channel came inputs in place of others
-  pub answers_for : (handed others : List HandedIn) → AllZip (InPlace chosen) handed others → (on : ℕ) → AllZip (AnswersFor chosen) (answered_on on handed) (answered_on on others)
+  pub answers_for : (handed others : List HandedIn) → AllZip (InPlace chosen) handed others → (on : ℕ) → AllZip (AnswersInPlaceOf chosen) (answered_on on handed) (answered_on on others)
   answers_for [] [] all on = tt
   answers_for [] (other ∷ others) all on = absurd all
   answers_for (one ∷ handed) [] all on = absurd all
   answers_for (came channel one ∷ handed) (came place other ∷ others) all on =
-      subst (λ (n : ℕ). AllZip (AnswersFor chosen) (answered_on on (came channel one ∷ handed)) (answered_on on (came n other ∷ others))) (sym all.0.channel_is)
+      subst (λ (n : ℕ). AllZip (AnswersInPlaceOf chosen) (answered_on on (came channel one ∷ handed)) (answered_on on (came n other ∷ others))) (sym all.0.channel_is)
       (zip_if (channel == on) one other (answered_on on handed) (answered_on on others) all.0.answers (answers_for handed others all.1 on))
   answers_for (came channel one ∷ handed) (decided flow decision ∷ others) all on = absurd all.0
   answers_for (came channel one ∷ handed) (restarted flow first ∷ others) all on = absurd all.0
   answers_for (decided flow decision ∷ handed) (other ∷ others) all on =
-      subst (λ (o : HandedIn). AllZip (AnswersFor chosen) (answered_on on handed) (answered_on on (o ∷ others))) (sym all.0) (answers_for handed others all.1 on)
+      subst (λ (o : HandedIn). AllZip (AnswersInPlaceOf chosen) (answered_on on handed) (answered_on on (o ∷ others))) (sym all.0) (answers_for handed others all.1 on)
   answers_for (restarted flow first ∷ handed) (other ∷ others) all on = absurd all.0
 
   module _ (k : ℕ) (is : chosen k ≡ true) where

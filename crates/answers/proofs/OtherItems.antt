@@ -16,7 +16,7 @@ use Rattle.loss_rule.specs.Rule.{Coming}
 use Rattle.receiver.specs.Order.{picked, IsMergeOf}
 use Rattle.receiver.specs.Ruled.{coming_of, comings_at}
 use Rattle.receiver.proofs.Pairs.{zip_weaker, zip_map, zip_length}
-use Rattle.answers.specs.Beside.{IsAdmittedFor, AreAdmittedFor, AnswersFor}
+use Rattle.answers.specs.Beside.{IsAdmittedFor, AreAdmittedFor, AnswersInPlaceOf}
 use Rattle.answers.proofs.SomeIntake.{left, picked-first}
 
 -- An item in place of another: of the same flow, and the same if that is selected.
@@ -35,7 +35,7 @@ admitted-option selected None (Some b) ones others here rest = absurd here
 admitted-option selected (Some a) None ones others here rest = absurd here
 admitted-option selected (Some a) (Some b) ones others here rest = (here, rest)
 
-pub admitted-for : (selected : ℕ → Bool) (ones others : List AnsweredInput) → AllZip (AnswersFor selected) ones others
+pub admitted-for : (selected : ℕ → Bool) (ones others : List AnsweredInput) → AllZip (AnswersInPlaceOf selected) ones others
     → AllZip (IsAdmittedFor selected) (admitted_of ones) (admitted_of others)
 admitted-for selected [] [] all = tt
 admitted-for selected [] (other ∷ others) all = absurd all
@@ -50,7 +50,7 @@ item-for selected one other is = record {
   same = λ chosen. ap (λ flow. Arrive flow other.segment) is.flow ∙ ap (Arrive one.flow) (is.segment chosen);
 }
 
-pub items-for : (selected : ℕ → Bool) (ones others : List AnsweredInput) → AllZip (AnswersFor selected) ones others
+pub items-for : (selected : ℕ → Bool) (ones others : List AnsweredInput) → AllZip (AnswersInPlaceOf selected) ones others
     → AllZip (IsItemFor selected) (map event_of_admitted (admitted_of ones)) (map event_of_admitted (admitted_of others))
 items-for selected ones others all =
     zip_map (IsItemFor selected) event_of_admitted event_of_admitted (admitted_of ones) (admitted_of others)
@@ -67,13 +67,13 @@ asked-same selected (one ∷ ones) (other ∷ others) all =
     let asked : List Request = filter_map (λ (a : Admitted). a.request) others in
     ap (λ (request : Option Request). cons_option request asked) all.0.request ∙ ap (cons_option one.request) (asked-same selected ones others all.1)
 
-pub requests-same : (selected : ℕ → Bool) (ones others : List AnsweredInput) → AllZip (AnswersFor selected) ones others → requests_of others ≡ requests_of ones
+pub requests-same : (selected : ℕ → Bool) (ones others : List AnsweredInput) → AllZip (AnswersInPlaceOf selected) ones others → requests_of others ≡ requests_of ones
 requests-same selected ones others all = asked-same selected (admitted_of ones) (admitted_of others) (admitted-for selected ones others all)
 
-pub count-same : (selected : ℕ → Bool) (ones others : List AnsweredInput) → AllZip (AnswersFor selected) ones others → admitted_count others ≡ admitted_count ones
+pub count-same : (selected : ℕ → Bool) (ones others : List AnsweredInput) → AllZip (AnswersInPlaceOf selected) ones others → admitted_count others ≡ admitted_count ones
 count-same selected ones others all = ap counted (zip_length (IsAdmittedFor selected) (admitted_of ones) (admitted_of others) (admitted-for selected ones others all))
 
-pub refused-same : (selected : ℕ → Bool) (ones others : List AnsweredInput) → AllZip (AnswersFor selected) ones others → refusal_numbers others ≡ refusal_numbers ones
+pub refused-same : (selected : ℕ → Bool) (ones others : List AnsweredInput) → AllZip (AnswersInPlaceOf selected) ones others → refusal_numbers others ≡ refusal_numbers ones
 refused-same selected [] [] all = refl
 refused-same selected [] (other ∷ others) all = absurd all
 refused-same selected (one ∷ ones) [] all = absurd all

@@ -34,7 +34,7 @@ use Rattle.receiver.proofs.MergedLists.{one-lane}
 use Rattle.receiver.proofs.Senders.{four, five}
 use Rattle.receiver.specs.Elsewhere.{StandsIn, DiffersElsewhere, AgreesOn}
 use Rattle.receiver.proofs.Pairs.{zip_same}
-use Rattle.answers.specs.Beside.{AnswersFor}
+use Rattle.answers.specs.Beside.{AnswersInPlaceOf}
 use Rattle.answers.proofs.SomeIntake.{of_four}
 use Rattle.answers.proofs.StandIns.{some_answers}
 use Rattle.answers.proofs.OtherItems.{IsItemFor, item_same, items-for, requests-same, count-same, refused-same, merged-for, comings-same}
@@ -43,7 +43,7 @@ use Rattle.answers.proofs.OtherItems.{IsItemFor, item_same, items-for, requests-
 record OtherLane (selected : ℕ → Bool) (setup : Setup) (other : Incoming) (channel : ℕ) (answered : List AnsweredInput) : Type 0 where
   more : List AnsweredInput
   lane : IsLaneOf setup other channel more
-  answer_for : AllZip (AnswersFor selected) answered more
+  answer_for : AllZip (AnswersInPlaceOf selected) answered more
 
 other_lane : (selected : ℕ → Bool) (setup : Setup) (incoming other : Incoming) (channel : ℕ) (answered : List AnsweredInput) → IsLaneOf setup incoming channel answered
     → AllZip (StandsIn selected) answered (other.inputs channel) → OtherLane selected setup other channel answered
@@ -54,7 +54,7 @@ other_lane selected setup incoming other channel answered lane stands =
 -- the answers of all four
 pub other_lanes : (selected : ℕ → Bool) (setup : Setup) (incoming other : Incoming) (differs : DiffersElsewhere selected setup incoming other)
     → (answered : ℕ → List AnsweredInput) × AreLanesOf setup other answered
-    × ((channel : ℕ) → channel < channel_limit → AllZip (AnswersFor selected) (differs.answered channel) (answered channel))
+    × ((channel : ℕ) → channel < channel_limit → AllZip (AnswersInPlaceOf selected) (differs.answered channel) (answered channel))
 other_lanes selected setup incoming other differs =
     let one : (channel : ℕ) → channel < channel_limit → OtherLane selected setup other channel (differs.answered channel) =
     λ channel below. other_lane selected setup incoming other channel (differs.answered channel) (differs.lanes channel below) (differs.inputs channel below) in
@@ -65,13 +65,13 @@ other_lanes selected setup incoming other differs =
     let answered = of_four a.more b.more c.more d.more in (
       answered,
       four (λ channel. IsLaneOf setup other channel (answered channel)) a.lane b.lane c.lane d.lane,
-      four (λ channel. AllZip (AnswersFor selected) (differs.answered channel) (answered channel)) a.answer_for b.answer_for c.answer_for d.answer_for,
+      four (λ channel. AllZip (AnswersInPlaceOf selected) (differs.answered channel) (answered channel)) a.answer_for b.answer_for c.answer_for d.answer_for,
     )
 
 -- What is taken in of the others, in the same order.
 pub record OtherIntake (selected : ℕ → Bool) (setup : Setup) (incoming other : Incoming) (order : List ℕ) (intake : IsIntake setup incoming order) : Type 0 where
   pub taken : IsIntake setup other order
-  pub answer_for : (channel : ℕ) → channel < channel_limit → AllZip (AnswersFor selected) (intake.answered channel) (taken.answered channel)
+  pub answer_for : (channel : ℕ) → channel < channel_limit → AllZip (AnswersInPlaceOf selected) (intake.answered channel) (taken.answered channel)
   pub items_for : AllZip (IsItemFor selected) intake.items taken.items
 
 pub other_intake : (selected : ℕ → Bool) (setup : Setup) (incoming other : Incoming) (order : List ℕ) (intake : IsIntake setup incoming order)
@@ -80,8 +80,8 @@ other_intake selected setup incoming other order intake can differs =
     let made = other_lanes selected setup incoming other differs in
     let answered = made.0 in
     let R = IsItemFor selected in
-    let for : (channel : ℕ) → channel < channel_limit → AllZip (AnswersFor selected) (intake.answered channel) (answered channel) =
-    λ channel below. subst (λ (t : List AnsweredInput). AllZip (AnswersFor selected) t (answered channel))
+    let for : (channel : ℕ) → channel < channel_limit → AllZip (AnswersInPlaceOf selected) (intake.answered channel) (answered channel) =
+    λ channel below. subst (λ (t : List AnsweredInput). AllZip (AnswersInPlaceOf selected) t (answered channel))
     (one-lane setup incoming can differs.answered intake.answered differs.lanes intake.lanes channel below) (made.2 channel below) in
     let lists = items_of setup other answered in
     let names = names_a_flow (length setup.flows.items) in
@@ -137,8 +137,8 @@ outcomes-agree selected rule check setup incoming other order outcome another ca
     let made = other_intake selected setup incoming other order is.intake can differs in
     let answered = one-answered setup other order can made.taken are.intake in
     let items = one-items setup other order can made.taken are.intake in
-    let answer_for : (channel : ℕ) → channel < channel_limit → AllZip (AnswersFor selected) (is.intake.answered channel) (are.intake.answered channel) =
-    λ channel below. subst (λ (t : List AnsweredInput). AllZip (AnswersFor selected) (is.intake.answered channel) t) (answered channel below) (made.answer_for channel below) in
+    let answer_for : (channel : ℕ) → channel < channel_limit → AllZip (AnswersInPlaceOf selected) (is.intake.answered channel) (are.intake.answered channel) =
+    λ channel below. subst (λ (t : List AnsweredInput). AllZip (AnswersInPlaceOf selected) (is.intake.answered channel) t) (answered channel below) (made.answer_for channel below) in
     let items_for : AllZip (IsItemFor selected) is.intake.items are.intake.items =
     subst (λ (t : List Event). AllZip (IsItemFor selected) is.intake.items t) items made.items_for in
     record {

@@ -9,7 +9,7 @@ use Rattle.lane.specs.Report.{admitted_by}
 use Rattle.receiver.specs.declared.setup.Setup.{Setup}
 use Rattle.receiver.specs.Items.{Incoming}
 use Rattle.receiver.specs.Elsewhere.{LooksLike, StandsIn, DiffersElsewhere}
-use Rattle.answers.specs.Beside.{AreAdmittedFor, AnswersFor}
+use Rattle.answers.specs.Beside.{AreAdmittedFor, AnswersInPlaceOf}
 use Rattle.answers.proofs.OtherOutcomes.{other_lanes}
 
 looks_back : (one other : Input) → LooksLike one other → LooksLike other one
@@ -27,7 +27,7 @@ admitted_back selected (Some a) (Some b) admitted for is =
     let same : b ≡ admitted = cc in
     (a, refl, sym (ap (λ (x : Admitted). x.flow) same) ∙ for.flow)
 
-stands_back : (selected : ℕ → Bool) (one other : AnsweredInput) → StandsIn selected one other.input → AnswersFor selected one other → StandsIn selected other one.input
+stands_back : (selected : ℕ → Bool) (one other : AnsweredInput) → StandsIn selected one other.input → AnswersInPlaceOf selected one other → StandsIn selected other one.input
 stands_back selected one other stands for = record {
   looks_like = looks_back one.input other.input stands.looks_like;
   same = λ admitted gives chosen.
@@ -35,7 +35,7 @@ stands_back selected one other stands for = record {
       sym (stands.same first.0 first.1 (ap selected (sym first.2) ∙ chosen));
 }
 
-all_back : (selected : ℕ → Bool) (ones others : List AnsweredInput) → AllZip (StandsIn selected) ones (inputs_of others) → AllZip (AnswersFor selected) ones others
+all_back : (selected : ℕ → Bool) (ones others : List AnsweredInput) → AllZip (StandsIn selected) ones (inputs_of others) → AllZip (AnswersInPlaceOf selected) ones others
     → AllZip (StandsIn selected) others (inputs_of ones)
 all_back selected [] [] stands for = tt
 all_back selected [] (other ∷ others) stands for = absurd for

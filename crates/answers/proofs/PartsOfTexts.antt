@@ -37,7 +37,7 @@ use Rattle.answers.proofs.SomeIntake.{some_intake, few_kept}
 use Rattle.answers.proofs.SomeReplay.{some_replay}
 use Rattle.answers.proofs.SomeText.{replayed_of}
 use Rattle.answers.proofs.ReadTraces.{read-bytes, read-few}
-use Rattle.answers.specs.Beside.{AreAdmittedFor, AnswersFor}
+use Rattle.answers.specs.Beside.{AreAdmittedFor, AnswersInPlaceOf}
 use Rattle.answers.proofs.OtherOutcomes.{other_lanes, outcomes-agree}
 use Rattle.answers.proofs.PartsOfReports.{part_same}
 
@@ -51,7 +51,7 @@ admits_same selected (Some one) (Some other) is = refl
 abbrev admits : AnsweredInput → Bool
 admits one = is_some (admitted_by one.answer)
 
-flags_same : (selected : ℕ → Bool) (ones others : List AnsweredInput) → AllZip (AnswersFor selected) ones others → map admits others ≡ map admits ones
+flags_same : (selected : ℕ → Bool) (ones others : List AnsweredInput) → AllZip (AnswersInPlaceOf selected) ones others → map admits others ≡ map admits ones
 flags_same selected [] [] all = refl
 flags_same selected [] (other ∷ others) all = absurd all
 flags_same selected (one ∷ ones) [] all = absurd all

@@ -48,7 +48,7 @@ use Rattle.texts.specs.FollowedReport.{came_to}
 use Rattle.texts.specs.Happening.{name_of_input}
 use Rattle.texts.specs.Happened.{IsOfTrace, IsGivenSoFar, IsStanding, TellsStanding, TellsInput, TellsDecision, Tells, nothing, one_more}
 use Rattle.answers.specs.Bytes.{AreBytes, Brings}
-use Rattle.answers.specs.Beside.{GivesBytes, HappenedSoFar}
+use Rattle.answers.specs.Beside.{GivesOfBytes, HappenedSoFar}
 use Rattle.answers.proofs.AdmittedPayloads.{admitted-payload}
 use Rattle.answers.proofs.GivenFlows.{gives_nothing, expects, expects_so, holds_so, gives_more, gives_then, some_told, some_loss}
 use Rattle.answers.proofs.MoreComings.{came_stays, came_elsewhere, came_here, begun_once}
@@ -70,7 +70,7 @@ module _ (made : TableSetup) (can : CanBeOpenedWithin made.channels made.rows (l
     gives : List Given
     no_requests : (channel : ℕ) → requests_given channel gives ≡ []
     flows : (k : ℕ) (flow_record : FlowRecord) → slice_get made.records k ≡ Some flow_record
-        → GivesBytes any_header (flow_setup made k flow_record) (came_to made (handed ++ one ∷ []) k flow_record) (frames_of k (given ++ (asked_in request ++ gives)))
+        → GivesOfBytes any_header (flow_setup made k flow_record) (came_to made (handed ++ one ∷ []) k flow_record) (frames_of k (given ++ (asked_in request ++ gives)))
     others : (k : ℕ) → length made.records ≤ k → frames_of k (given ++ (asked_in request ++ gives)) ≡ []
 
   module _ (handed : List HandedIn) (given : List Given) (happened : List Happening) (was : HappenedSoFar made handed given happened) where
@@ -82,8 +82,8 @@ module _ (made : TableSetup) (can : CanBeOpenedWithin made.channels made.rows (l
       flows = λ k flow_record there.
           let setup = flow_setup made k flow_record in
           let same : frames_of k given ≡ frames_of k (given ++ []) = ap (frames_of k) (sym (append-nil given)) in
-          subst (λ (frames : List (List ℕ)). GivesBytes any_header setup (came_to made (handed ++ one ∷ []) k flow_record) frames) same
-          (subst (λ (comings : List Coming). GivesBytes any_header setup comings (frames_of k given)) (sym (came_stays made handed one k flow_record none))
+          subst (λ (frames : List (List ℕ)). GivesOfBytes any_header setup (came_to made (handed ++ one ∷ []) k flow_record) frames) same
+          (subst (λ (comings : List Coming). GivesOfBytes any_header setup comings (frames_of k given)) (sym (came_stays made handed one k flow_record none))
           (was.flows k flow_record there));
       others = λ k past. ap (frames_of k) (append-nil given) ∙ was.others k past;
     }
@@ -110,28 +110,28 @@ module _ (made : TableSetup) (can : CanBeOpenedWithin made.channels made.rows (l
       frames_elsewhere other apart =
           ap (frames_of other) grouped ∙ frames-others k [] [] (given ++ asked_in request) frames other apart ∙ frames-asked other given request
 
-      here_then : GivesBytes any_header setup (came_to made (handed ++ one ∷ []) k flow_record) (frames_of k (given ++ (asked_in request ++ map (Frame k) frames)))
+      here_then : GivesOfBytes any_header setup (came_to made (handed ++ one ∷ []) k flow_record) (frames_of k (given ++ (asked_in request ++ map (Frame k) frames)))
       unfolding frames
       here_then =
-          subst (λ (t : List (List ℕ)). GivesBytes any_header setup (came_to made (handed ++ one ∷ []) k flow_record) t) (sym frames_here)
-          (subst (λ (c : List Coming). GivesBytes any_header setup c (frames_of k given ++ frames)) (sym (came_here made handed one k coming is flow_record))
+          subst (λ (t : List (List ℕ)). GivesOfBytes any_header setup (came_to made (handed ++ one ∷ []) k flow_record) t) (sym frames_here)
+          (subst (λ (c : List Coming). GivesOfBytes any_header setup c (frames_of k given ++ frames)) (sym (came_here made handed one k coming is flow_record))
           (gives_then any_header setup comings (frames_of k given) (was.flows k flow_record here) coming brings))
 
       flows_then : (other : ℕ) (another : FlowRecord) → slice_get made.records other ≡ Some another
-          → GivesBytes any_header (flow_setup made other another) (came_to made (handed ++ one ∷ []) other another)
+          → GivesOfBytes any_header (flow_setup made other another) (came_to made (handed ++ one ∷ []) other another)
           (frames_of other (given ++ (asked_in request ++ map (Frame k) frames)))
       flows_then other another there = elim (cases_eq k other) [
         | inl same ↦
             subst (λ (j : ℕ). (r : FlowRecord) → slice_get made.records j ≡ Some r
-            → GivesBytes any_header (flow_setup made j r) (came_to made (handed ++ one ∷ []) j r) (frames_of j (given ++ (asked_in request ++ map (Frame k) frames)))) same
+            → GivesOfBytes any_header (flow_setup made j r) (came_to made (handed ++ one ∷ []) j r) (frames_of j (given ++ (asked_in request ++ map (Frame k) frames)))) same
             (λ r at.
-            subst (λ (r : FlowRecord). GivesBytes any_header (flow_setup made k r) (came_to made (handed ++ one ∷ []) k r)
+            subst (λ (r : FlowRecord). GivesOfBytes any_header (flow_setup made k r) (came_to made (handed ++ one ∷ []) k r)
             (frames_of k (given ++ (asked_in request ++ map (Frame k) frames)))) (same_Some flow_record r (sym here ∙ at)) here_then)
             another there
         | inr apart ↦
-            subst (λ (t : List (List ℕ)). GivesBytes any_header (flow_setup made other another) (came_to made (handed ++ one ∷ []) other another) t)
+            subst (λ (t : List (List ℕ)). GivesOfBytes any_header (flow_setup made other another) (came_to made (handed ++ one ∷ []) other another) t)
             (sym (frames_elsewhere other apart))
-            (subst (λ (c : List Coming). GivesBytes any_header (flow_setup made other another) c (frames_of other given))
+            (subst (λ (c : List Coming). GivesOfBytes any_header (flow_setup made other another) c (frames_of other given))
             (sym (came_elsewhere made handed one k coming is other another apart)) (was.flows other another there))
       ]
 
@@ -149,7 +149,7 @@ module _ (made : TableSetup) (can : CanBeOpenedWithin made.channels made.rows (l
 
     -- where this flow has given this
     stands_so : (after : List HandedIn) (k : ℕ) (flow_record : FlowRecord) (frames : List (List ℕ)) → All (IsOfTrace made.channels) after
-        → slice_get made.records k ≡ Some flow_record → GivesBytes any_header (flow_setup made k flow_record) (came_to made after k flow_record) frames
+        → slice_get made.records k ≡ Some flow_record → GivesOfBytes any_header (flow_setup made k flow_record) (came_to made after k flow_record) frames
         → (told : List Happening) × TellsStanding made after k told
     stands_so after k flow_record frames each here gives =
         let setup = flow_setup made k flow_record in
@@ -181,7 +181,7 @@ module _ (made : TableSetup) (can : CanBeOpenedWithin made.channels made.rows (l
       pub answered : (channel : ℕ) → channel < made.channels → AreAnswered (lane_of made channel) (answered_on channel (handed ++ one ∷ []))
       pub requests : (channel : ℕ) → requests_given channel (given ++ more) ≡ requests_of (answered_on channel (handed ++ one ∷ []))
       pub flows : (k : ℕ) (flow_record : FlowRecord) → slice_get made.records k ≡ Some flow_record
-          → GivesBytes any_header (flow_setup made k flow_record) (came_to made (handed ++ one ∷ []) k flow_record) (frames_of k (given ++ more))
+          → GivesOfBytes any_header (flow_setup made k flow_record) (came_to made (handed ++ one ∷ []) k flow_record) (frames_of k (given ++ more))
       pub others : (k : ℕ) → length made.records ≤ k → frames_of k (given ++ more) ≡ []
 
     -- with it all is given that comes of what was handed in

@@ -18,7 +18,7 @@ use Rattle.lane.specs.Report.{admitted_by}
 use Rattle.lane.proofs.LaneTaking.{granted, answered-more}
 use Rattle.receiver.specs.Elsewhere.{StandsIn}
 use Rattle.receiver.proofs.Pairs.{zip_at, zip_flip, zip_weaker, zip_push, zip_count}
-use Rattle.answers.specs.Beside.{CountsAs, AreAdmittedFor, AnswersFor}
+use Rattle.answers.specs.Beside.{CountsAs, AreAdmittedFor, AnswersInPlaceOf}
 
 counts_back : (one other : AnsweredInput) → CountsAs one other → CountsAs other one
 counts_back one other c = record { grants = c.granted_by; granted_by = c.grants; number = sym c.number; spends = sym c.spends; accepts = sym c.accepts }
@@ -65,13 +65,13 @@ module _ (setup : LaneSetup) (taken others : List AnsweredInput) (all : AllZip C
 -- an answer that fits, with what it says
 abbrev pub Fitting : (ℕ → Bool) → LaneSetup → List AnsweredInput → AnsweredInput → Input → Type 0
 Fitting selected setup others one other =
-    (answer : Answer) × IsAnswer setup others other answer × AnswersFor selected one (record { input = other; answer = answer })
+    (answer : Answer) × IsAnswer setup others other answer × AnswersInPlaceOf selected one (record { input = other; answer = answer })
 
 admitted_same : (selected : ℕ → Bool) (one : Option Admitted) → AreAdmittedFor selected one one
 admitted_same selected None = tt
 admitted_same selected (Some one) = record { flow = refl; request = refl; segment = λ is. refl }
 
-answers_same : (selected : ℕ → Bool) (one : AnsweredInput) → AnswersFor selected one one
+answers_same : (selected : ℕ → Bool) (one : AnsweredInput) → AnswersInPlaceOf selected one one
 answers_same selected one = record {
   counts = record { grants = λ number sid bytes is. is; granted_by = λ number sid bytes is. is; number = refl; spends = refl; accepts = refl };
   admitted = admitted_same selected (admitted_by one.answer);
@@ -192,7 +192,7 @@ to_rest setup front rest one answers = subst (AreAnswered setup) (append_assoc f
 -- so inputs that stand in have answers, one after another
 answers_after : (selected : ℕ → Bool) (setup : LaneSetup) (front others rest : List AnsweredInput) (inputs : List Input) → AreAnswered setup (front ++ rest) → AreAnswered setup others
     → AllZip CountsAs front others → AllZip (StandsIn selected) rest inputs
-    → (more : List AnsweredInput) × AreAnswered setup (others ++ more) × (inputs_of more ≡ inputs) × AllZip (AnswersFor selected) rest more
+    → (more : List AnsweredInput) × AreAnswered setup (others ++ more) × (inputs_of more ≡ inputs) × AllZip (AnswersInPlaceOf selected) rest more
 answers_after selected setup front others [] [] answers also counts stands = ([], subst (AreAnswered setup) (sym (append-nil others)) also, refl, tt)
 answers_after selected setup front others [] (input ∷ inputs) answers also counts stands = absurd stands
 answers_after selected setup front others (one ∷ rest) [] answers also counts stands = absurd stands
@@ -213,6 +213,6 @@ answers_after selected setup front others (one ∷ rest) (input ∷ inputs) answ
 
 pub some_answers : (selected : ℕ → Bool) (setup : LaneSetup) (answered : List AnsweredInput) (inputs : List Input) → AreAnswered setup answered
     → AllZip (StandsIn selected) answered inputs
-    → (more : List AnsweredInput) × AreAnswered setup more × (inputs_of more ≡ inputs) × AllZip (AnswersFor selected) answered more
+    → (more : List AnsweredInput) × AreAnswered setup more × (inputs_of more ≡ inputs) × AllZip (AnswersInPlaceOf selected) answered more
 some_answers selected setup answered inputs answers stands =
     answers_after selected setup [] [] answered inputs answers (λ k one there. absurd cc) tt stands

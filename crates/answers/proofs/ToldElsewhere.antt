@@ -48,7 +48,7 @@ use Rattle.texts.specs.Happening.{name_of_input}
 use Rattle.texts.specs.Happened.{IsOfTrace, IsGivenSoFar, IsStanding, TellsStanding, TellsStandingAfter, flow_admitted, flow_decided, TellsInput, TellsDecision, Tells, HasHappened, nothing, one_more}
 use Rattle.texts.proofs.OneHappening.{entry_there, same_decision, no_decision, entries_more, its_answer, answered_with, one_input, one_decision, GivesOneSoFar}
 use Rattle.answers.specs.ToldAlike.{EntryStandsIn, is_told_for, AreGivenFor, HappenFor, for_nothing, for_more}
-use Rattle.answers.specs.Beside.{CountsAs, AreAdmittedFor, AnswersFor, InputsFor, InPlace}
+use Rattle.answers.specs.Beside.{CountsAs, AreAdmittedFor, AnswersInPlaceOf, InputsFor, InPlace}
 use Rattle.answers.proofs.OtherItems.{requests-same}
 use Rattle.answers.proofs.StandIns.{some_answer}
 use Rattle.answers.proofs.HandedInPlace.{zip_pop, none_zipped, some_zipped, same_name, replies_same, granted_too, refused_too, admitted_too, answers_for, inputs_for}
@@ -169,7 +169,7 @@ module _ (selected : Selection) (made : TableSetup) (can : CanBeOpenedWithin mad
 
   -- ---- an input
 
-  module _ (handed others : List HandedIn) (channel : ℕ) (one other : AnsweredInput) (answers : AnswersFor chosen one other)
+  module _ (handed others : List HandedIn) (channel : ℕ) (one other : AnsweredInput) (answers : AnswersInPlaceOf chosen one other)
       (name : name_of_input channel other.input ≡ name_of_input channel one.input) (before : AllZip (InPlace chosen) handed others)
       (all : AllZip (InPlace chosen) (handed ++ came channel one ∷ []) (others ++ came channel other ∷ [])) where
     -- the same is said
@@ -284,7 +284,7 @@ module _ (selected : Selection) (made : TableSetup) (can : CanBeOpenedWithin mad
       → IsGivenSoFar made (others ++ came place other ∷ []) also → InputsFor chosen channel one place other
   input_in_place handed others all channel place one other given also within same stands so_far so_too =
       let there : IsGivenSoFar made (others ++ came channel other ∷ []) also = subst (λ (c : ℕ). IsGivenSoFar made (others ++ came c other ∷ []) also) same so_too in
-      let counts = zip_weaker (AnswersFor chosen) CountsAs (λ a b is. is.counts) (answered_on channel handed) (answered_on channel others) (answers_for chosen handed others all channel) in
+      let counts = zip_weaker (AnswersInPlaceOf chosen) CountsAs (λ a b is. is.counts) (answered_on channel handed) (answered_on channel others) (answers_for chosen handed others all channel) in
       let found = some_answer chosen (lane_of made channel) (answered_on channel handed) (answered_on channel others) counts one.input one.answer other.input
       (its_answer made can gives handed channel within one given so_far) stands in
       let before = answered-before (lane_of made channel) (answered_on channel others) other (answered_with made can gives others channel within other also there) in
@@ -293,7 +293,7 @@ module _ (selected : Selection) (made : TableSetup) (can : CanBeOpenedWithin mad
       let by_answer : Answer → AnsweredInput = λ answer. record { input = other.input; answer = answer } in
       record {
         channel_is = same;
-        answers = subst (λ (a : Answer). AnswersFor chosen one (by_answer a)) answer found.2;
+        answers = subst (λ (a : Answer). AnswersInPlaceOf chosen one (by_answer a)) answer found.2;
         name = same_name channel one.input other.input stands.looks_like;
       }
 

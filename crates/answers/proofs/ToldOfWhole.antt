@@ -30,7 +30,7 @@ use Rattle.texts.specs.Happened.{IsOfTrace, IsGivenSoFar, Tells, HasHappened, no
 use Rattle.texts.proofs.OneHappening.{its_answer, GivesOneSoFar}
 use Rattle.answers.specs.Room.{EntryHasBytes}
 use Rattle.answers.specs.ToldAlike.{EntryStandsIn, is_told_for}
-use Rattle.answers.specs.Beside.{CountsAs, AnswersFor, InPlace, GivesBytes, HappenedSoFar, IsBeside, is_given_for, GrowsBeside}
+use Rattle.answers.specs.Beside.{CountsAs, AnswersInPlaceOf, InPlace, GivesOfBytes, HappenedSoFar, IsBeside, is_told_if_given, GrowsBeside}
 use Rattle.answers.proofs.OtherItems.{requests-same}
 use Rattle.answers.proofs.SomeHappening.{nothing_so_far, OneMore, happened_with, takes_one, takes_decision}
 use Rattle.answers.proofs.StandIns.{some_answer}
@@ -50,15 +50,15 @@ zip_last {X} {Y} R (a ∷ xs) x (b ∷ ys) all =
 
 module _ (selected : Selection) where
   -- what is told of what is given
-  one_gave : (given : Given) (more : List Given) → filter (is_told_for selected) (map Gave more) ≡ map Gave (filter (is_given_for selected) more) → (b : Bool)
+  one_gave : (given : Given) (more : List Given) → filter (is_told_for selected) (map Gave more) ≡ map Gave (filter (is_told_if_given selected) more) → (b : Bool)
       → (if b then Gave given ∷ filter (is_told_for selected) (map Gave more) else filter (is_told_for selected) (map Gave more))
-      ≡ map Gave (if b then given ∷ filter (is_given_for selected) more else filter (is_given_for selected) more)
+      ≡ map Gave (if b then given ∷ filter (is_told_if_given selected) more else filter (is_told_if_given selected) more)
   one_gave given more rest true = ap (λ (t : List Happening). Gave given ∷ t) rest
   one_gave given more rest false = rest
 
-  pub told_given : (given : List Given) → filter (is_told_for selected) (map Gave given) ≡ map Gave (filter (is_given_for selected) given)
+  pub told_given : (given : List Given) → filter (is_told_for selected) (map Gave given) ≡ map Gave (filter (is_told_if_given selected) given)
   told_given [] = refl
-  told_given (one ∷ more) = one_gave one more (told_given more) (is_given_for selected one)
+  told_given (one ∷ more) = one_gave one more (told_given more) (is_told_if_given selected one)
 
   -- nothing, where nothing was handed in
   pub nothing_beside : (made : TableSetup) → IsBeside selected made [] [] [] [] [] []
@@ -87,7 +87,7 @@ module _ (selected : Selection) (made : TableSetup) (can : CanBeOpenedWithin mad
       → AllZip (InPlace chosen) others handed → (one : HandedIn) (e : Entry) (also : List Given) → IsOfTrace made.channels one → IsGivenSoFar made (others ++ one ∷ []) also
       → EntryStandsIn chosen one e → EntryHasBytes e → InItsPlace handed given happened was one e
   in_its_place others handed given happened was all (came channel one) (entry.came place input) also within so_too stands bytes =
-      let counts = zip_weaker (AnswersFor chosen) CountsAs (λ a b is. is.counts) (answered_on channel others) (answered_on channel handed) (answers_for chosen others handed all channel) in
+      let counts = zip_weaker (AnswersInPlaceOf chosen) CountsAs (λ a b is. is.counts) (answered_on channel others) (answered_on channel handed) (answers_for chosen others handed all channel) in
       let found = some_answer chosen (lane_of made channel) (answered_on channel others) (answered_on channel handed) counts one.input one.answer input
       (its_answer made can gives others channel within one also so_too) stands.1 in
       let answered : AnsweredInput = record { input = input; answer = found.0 } in
@@ -135,12 +135,12 @@ module _ (selected : Selection) (made : TableSetup) (can : CanBeOpenedWithin mad
         ∙ sym (requests-same chosen (answered_on channel (others ++ one ∷ [])) (answered_on channel after) (answers_for chosen (others ++ one ∷ []) after both channel))
 
     flows_beside : (k : ℕ) (flow_record : FlowRecord) → slice_get made.records k ≡ Some flow_record
-        → GivesBytes any_header (flow_setup made k flow_record) (came_to made after k flow_record) (frames_of k (given ++ more_beside))
+        → GivesOfBytes any_header (flow_setup made k flow_record) (came_to made after k flow_record) (frames_of k (given ++ more_beside))
     flows_beside k flow_record there = by_flag (chosen k) refl where
       by_flag : (b : Bool) → chosen k ≡ b
-          → GivesBytes any_header (flow_setup made k flow_record) (came_to made after k flow_record) (frames_of k (given ++ more_beside))
+          → GivesOfBytes any_header (flow_setup made k flow_record) (came_to made after k flow_record) (frames_of k (given ++ more_beside))
       by_flag false is =
-          subst (λ (frames : List (List ℕ)). GivesBytes any_header (flow_setup made k flow_record) (came_to made after k flow_record) frames)
+          subst (λ (frames : List (List ℕ)). GivesOfBytes any_header (flow_setup made k flow_record) (came_to made after k flow_record) frames)
           (sym (frames_others k is)) (its.it.flows k flow_record there)
       by_flag true is =
           let setup = flow_setup made k flow_record in
@@ -151,7 +151,7 @@ module _ (selected : Selection) (made : TableSetup) (can : CanBeOpenedWithin mad
           let same = gives any_header setup (came_to made after k flow_record) (frames_of k (given ++ its.it.more)) (frames_of k (also ++ also_more))
           own.counts theirs.0 own.given
           (subst (λ (comings : List Coming). HasGivenByRule any_header setup comings (frames_of k (also ++ also_more)) theirs.0) came theirs.1) in
-          subst (λ (frames : List (List ℕ)). GivesBytes any_header setup (came_to made after k flow_record) frames) (same.0 ∙ sym (frames_chosen k is)) own
+          subst (λ (frames : List (List ℕ)). GivesOfBytes any_header setup (came_to made after k flow_record) frames) (same.0 ∙ sym (frames_chosen k is)) own
 
     others_beside : (k : ℕ) → length made.records ≤ k → frames_of k (given ++ more_beside) ≡ []
     others_beside k past = by_flag (chosen k) refl where

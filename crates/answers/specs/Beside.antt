@@ -59,7 +59,7 @@ AreAdmittedFor selected None (Some other) = ⊥
 AreAdmittedFor selected (Some one) None = ⊥
 
 -- An answered input in place of another.
-pub record AnswersFor (selected : ℕ → Bool) (one other : AnsweredInput) : Type 0 where
+pub record AnswersInPlaceOf (selected : ℕ → Bool) (one other : AnsweredInput) : Type 0 where
   pub counts : CountsAs one other
   pub admitted : AreAdmittedFor selected (admitted_by one.answer) (admitted_by other.answer)
   pub refused : refused_by other.answer ≡ refused_by one.answer
@@ -67,7 +67,7 @@ pub record AnswersFor (selected : ℕ → Bool) (one other : AnsweredInput) : Ty
 -- an input in place of another, or the same decision
 pub record InputsFor (selected : ℕ → Bool) (channel : ℕ) (one : AnsweredInput) (place : ℕ) (other : AnsweredInput) : Type 0 where
   pub channel_is : place ≡ channel
-  pub answers : AnswersFor selected one other
+  pub answers : AnswersInPlaceOf selected one other
   pub name : name_of_input channel other.input ≡ name_of_input channel one.input
 
 abbrev pub InPlace : (ℕ → Bool) → HandedIn → HandedIn → Type 0
@@ -84,7 +84,7 @@ abbrev pub KeepsCarrying : (List ℕ → Type 0) → Fates → Type 0
 KeepsCarrying P fates = (i : ℕ) (segment : Segment) → IsKeptAs fates i segment → P segment.payload
 
 -- What a flow has given to which all this came, where what it keeps is of bytes.
-pub record GivesBytes (check : List ℕ → Bool) (setup : FlowSetup) (comings : List Coming) (frames : List (List ℕ)) : Type 0 where
+pub record GivesOfBytes (check : List ℕ → Bool) (setup : FlowSetup) (comings : List Coming) (frames : List (List ℕ)) : Type 0 where
   pub counts : FlowCounts
   pub given : HasGivenByRule check setup comings frames counts
   pub kept : KeepsCarrying AreBytes given.fates
@@ -96,7 +96,7 @@ pub record HappenedSoFar (made : TableSetup) (handed : List HandedIn) (given : L
   pub answered : (channel : ℕ) → channel < made.channels → AreAnswered (lane_of made channel) (answered_on channel handed)
   pub requests : (channel : ℕ) → requests_given channel given ≡ requests_of (answered_on channel handed)
   pub flows : (k : ℕ) (flow_record : FlowRecord) → slice_get made.records k ≡ Some flow_record
-      → GivesBytes any_header (flow_setup made k flow_record) (came_to made handed k flow_record) (frames_of k given)
+      → GivesOfBytes any_header (flow_setup made k flow_record) (came_to made handed k flow_record) (frames_of k given)
   pub others : (k : ℕ) → length made.records ≤ k → frames_of k given ≡ []
 
 -- **The whole beside the stand-ins**: after the stand-ins `others` were handed in, for which `also`
@@ -112,8 +112,8 @@ pub record IsBeside (selected : Selection) (made : TableSetup) (others : List Ha
 -- ---- one thing more
 
 -- a given thing is of no flow, or of one that is selected
-abbrev pub is_given_for : Selection → Given → Bool
-is_given_for selected given = is_left selected (flow_of_given given)
+abbrev pub is_told_if_given : Selection → Given → Bool
+is_told_if_given selected given = is_left selected (flow_of_given given)
 
 -- One thing more of the whole beside one stand-in more: it is this entry. What is given for it and
 -- told of it comes behind what happened, and of that the same is told of the selected flows and of
@@ -134,9 +134,9 @@ pub record AreCountedAlike (selected : Selection) (closed other : Closed) : Type
   pub lanes : other.lanes.items ≡ closed.lanes.items
 
 -- What the whole gives as it is closed, beside what was given for the stand-ins.
-pub record ClosesBeside (selected : Selection) (made : TableSetup) (handed : List HandedIn) (given : List Given) (rest : List Given) (closed : Closed) : Type 0 where
+pub record ClosesWhole (selected : Selection) (made : TableSetup) (handed : List HandedIn) (given : List Given) (rest : List Given) (closed : Closed) : Type 0 where
   pub more : List Given
   pub counted : Closed
   pub received : IsReceived any_header made handed (given ++ more) counted
-  pub same : filter (is_given_for selected) more ≡ filter (is_given_for selected) rest
+  pub same : filter (is_told_if_given selected) more ≡ filter (is_told_if_given selected) rest
   pub alike : AreCountedAlike selected closed counted

@@ -67,7 +67,7 @@ ghost use Rattle.texts.specs.Trace.Place.{Said, nothing_said, nothing_said_in, t
 ghost use Rattle.texts.specs.Replay.{IsSetupOf, IsReplayed, IsReplayedBy};
 ghost use Rattle.receiver.specs.Elsewhere.{DiffersElsewhere, AgreesOn};
 ghost use Rattle.answers.specs.ToldAlike.{EntryStandsIn, is_told_for, HappenFor};
-ghost use Rattle.answers.specs.Beside.{IsBeside, GrowsBeside, ClosesBeside};
+ghost use Rattle.answers.specs.Beside.{IsBeside, GrowsBeside, ClosesWhole};
 ghost use Rattle.answers.specs.Room.{EntryHasBytes, AreBurstsOfBytes, HasRoom};
 ghost use Rattle.answers.specs.Bytes.{AreBytes, CarryBytes, BringBytes};
 
@@ -266,7 +266,7 @@ pub fn what_stand_ins_give_at_the_close_is_given_of_the_whole()
         → IsBeside selected made others also entries handed given happened
         → All (IsOfTrace made.channels) others
         → IsReceived any_header made others (also ++ rest) closed
-        → ClosesBeside selected made handed given rest closed }
+        → ClosesWhole selected made handed given rest closed }
 {}
 
 /// **What stands in for a trace gives a part of its text**: where the lines of a trace are read and

@@ -16,7 +16,8 @@ use Rattle.text_lines.specs.Putting.{Puts}
 use Rattle.consumer.specs.declared.given.Given.{Given}
 use Rattle.texts.specs.declared.follow.settings.FollowSettings.{FollowSettings}
 use Rattle.followed_traces.specs.declared.input.Followed.{Followed}
-use Rattle.followed_traces.specs.Followed.{end_text, IsFollowedTo}
+use Rattle.followed_traces.proofs.EndOfTrace.{left_lines, left_counts}
+use Rattle.followed_traces.specs.End.{end_text, IsFollowedTo}
 use Rattle.texts.specs.declared.follow.happening.Happening.{Happening}
 use Rattle.texts.specs.declared.follow.happening.Happening.TheVariants.{Gave}
 use Rattle.texts.specs.Happened.{HasHappened, HappenedBy, HappenedAt, happening_of, AreNumbered}
@@ -24,7 +25,7 @@ use Rattle.texts.specs.Follow.{given_told, lines_told, told_lines, closed_lines,
 use Rattle.texts.specs.Trace.Line.{shape_of}
 use Rattle.texts.specs.Trace.Place.{nothing_said_in, trace_format}
 use Rattle.followed_traces.specs.Inside.Watched.{Watched}
-use Rattle.followed_traces.specs.Inside.Followed.{nothing_followed, HasFollowedLines, IsAllPut, PutsHappened, with_told}
+use Rattle.followed_traces.specs.Inside.Lines.{no_lines_followed, HasFollowedLines, IsAllPut, PutsHappened, with_told}
 use Rattle.texts.specs.Inside.TraceInput.{taking_format}
 use Rattle.texts.proofs.HandedLines.{read_alone}
 use Rattle.engines.specs.declared.device.Device.{Device}
@@ -40,7 +41,7 @@ use Rattle.engines.specs.Inside.Following.{HasFollowedBytes, IsLastLine, IsEndFa
 use Rattle.engines.proofs.NumberedHappenings.{all_of, both_at, lines_at, lines_given, numbered_more}
 use Rattle.engines.proofs.FollowedDevices.{flushed_then}
 use Rattle.engines.proofs.WrittenText.{AppendsFront-behind}
-use Rattle.engines.proofs.FollowedLines.{happened_by, read_bytes, read_told, lines_with_last}
+use Rattle.engines.proofs.FollowedLines.{happened_by, read_told, lines_with_last}
 use Rattle.text_lines.proofs.PutTexts.{puts-nothing}
 
 -- ---- all lines were taken
@@ -89,7 +90,7 @@ module _ (rule : LossRule) (width : Width) (settings : FollowSettings) (bytes : 
       settings_are = same_settings ∙ has.settings_are;
       state = with_told has.state happened;
       read =
-          subst (λ (all : List Happening). IsRead taking_format (nothing_followed settings all rule width) (lines_of bytes) (with_told has.state happened))
+          subst (λ (all : List Happening). IsRead taking_format (no_lines_followed settings all rule width) (lines_of bytes) (with_told has.state happened))
           (sym (all_of told ended.line happened)) (read_told happened has.read);
       stands = stands;
       numbered = λ more by.
@@ -108,7 +109,7 @@ module _ (rule : LossRule) (width : Width) (settings : FollowSettings) (bytes : 
         → (more : List HappenedAt) × Puts after out (flat_map (told_lines settings) more) out'
         × MatchResult put (λ _. HasEnded rule width settings bytes (told ++ more) ended' × IsAllPut ended'.input.input.taker) (λ _. more ≡ [])
     pending_told after out out' ended' (Ok done) put same same_line =
-        let tells = put.told has.state has.stands (read_bytes settings rule width (map happening_of told) has.read) in
+        let tells = put.told has.state has.stands in
         let happened = tells.0 in (
           all_at ended.line happened,
           subst (λ (text : List ℕ). Puts after out text out')
@@ -190,7 +191,8 @@ module _ (rule : LossRule) (width : Width) (settings : FollowSettings) (bytes : 
           rest = to.rest;
           closed = to.counted;
           received = to.received;
-          printed = printed_as ended.line to.last to.rest end to.counted (same ∙ has.settings_are) (to.are ended.line) to.counts;
+          printed = printed_as ended.line to.last to.rest end to.counted (same ∙ has.settings_are)
+              (left_lines rule width has.state.said (map happening_of told) end to ended.line) (left_counts rule width has.state.said (map happening_of told) end to);
         }
 
 -- ---- what was pending, and the rest

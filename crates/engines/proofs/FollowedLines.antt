@@ -2,7 +2,7 @@
 use Rattle.std.proofs.Common.{◌≡◌, ℕ, ◌+◌, ◌<◌, ◌≤◌, ◌==◌, ◌^◌, ◌-◌, ◌⊎◌, Bool, true, false, inl, inr, Option, Some, None, List, [], ◌∷◌, ◌++◌, length, refl, sym, ap, subst, ◌∙◌, arith, append-nil, append_assoc, length-append}
 use Rattle.std.specs.Prelude.{map, flat_map, min, if◌then◌else◌, Result, Ok, Err, MatchResult}
 use Rattle.std.specs.Io.KnownBytes.{Appends}
-use Rattle.std.specs.List.{slice_split, AllByRecursion}
+use Rattle.std.specs.List.{slice_split}
 use Rattle.loss_rule.specs.declared.rule.LossRule.{LossRule}
 use Rattle.receiver.specs.declared.width.Width.{Width}
 use Rattle.receiver.specs.HandedIn.{made_of}
@@ -14,7 +14,6 @@ use Rattle.text_lines.specs.Fault.{text_fault_of_parse}
 use Rattle.text_lines.specs.LineReading.{Progress, no_progress, HasTaken, IsSettledFault, IsPieceFault}
 use Rattle.text_lines.specs.Lines.{lines_of, lines_of_parts, is_line_feed}
 use Rattle.text_lines.specs.declared.fault.ParseFault.{ParseFault}
-use Rattle.text_lines.proofs.KeptByEachLine.{IsRead-keeps}
 use Rattle.text_lines.proofs.LinesTaken.{AreTaken-none, IsSettledFault-longer}
 use Rattle.text_lines.proofs.CutAtLineFeeds.{slice_split_shape, slice_split-append, lines_of_parts-append}
 use Rattle.text_lines.proofs.LinesReadOneWay.{read_without_fault}
@@ -26,11 +25,9 @@ use Rattle.texts.specs.Happened.{HasHappened, HasHappenedFor, HappenedBy, Happen
 use Rattle.texts.specs.Follow.{told_lines, IsFollowedSoFar}
 use Rattle.texts.specs.Trace.Line.{shape_of}
 use Rattle.texts.specs.Trace.Place.{Said, nothing_said_in, trace_format}
-use Rattle.answers.specs.Room.{EntryHasBytes}
-use Rattle.answers.proofs.ReadTraces.{line-bytes}
 use Rattle.followed_traces.specs.declared.input.FollowInput.{FollowInput}
-use Rattle.followed_traces.specs.Inside.Watched.{HaveBytes, ReceiverUnderWay, Watched, starts_watched, HasFollowed}
-use Rattle.followed_traces.specs.Inside.Followed.{HasFollowedLines, nothing_followed, IsAllPut, with_told}
+use Rattle.followed_traces.specs.Inside.Watched.{ReceiverUnderWay, Watched, starts_watched, HasFollowed}
+use Rattle.followed_traces.specs.Inside.Lines.{HasFollowedLines, no_lines_followed, IsAllPut, with_told}
 use Rattle.texts.specs.Inside.TraceInput.{TraceState, taking_format, WereTaken}
 use Rattle.texts.proofs.HandedLines.{read_alone, faulty_alone}
 use Rattle.engines.specs.declared.follow.Follower.{Follower}
@@ -63,21 +60,21 @@ retaken format start S T a b follows progress bytes h = (
 )
 
 -- this was told besides
-abbrev with_more : Watched → List Happening → Watched
-with_more state more = record { told = state.told ++ more; settings = state.settings }
+abbrev watched_more : Watched → List Happening → Watched
+watched_more state more = record { told = state.told ++ more; settings = state.settings }
 
 -- lines are read alike whatever was told before
 pub read_told : (more : List Happening) {before after : TraceState Watched} {lines : List (List ℕ)} → IsRead taking_format before lines after
     → IsRead taking_format (with_told before more) lines (with_told after more)
 read_told more no_lines = no_lines
 read_told more (skipped none read) = skipped none (read_told more read)
-read_told more (taken takes read) = taken (ap (λ (s : Watched). with_more s more) takes.0, takes.1, takes.2, takes.3) (read_told more read)
+read_told more (taken takes read) = taken (ap (λ (s : Watched). watched_more s more) takes.0, takes.1, takes.2, takes.3) (read_told more read)
 
 -- more is told of what was taken
 pub taken_told : {A B : Type 0} (settings : FollowSettings) (rule : LossRule) (width : Width) (told more : List Happening) (S : TraceState Watched → A → Type 0)
     (T : TraceState Watched → B → Type 0) (a : A) (b : B) (progress : Progress) (bytes : List ℕ)
-    → (h : HasTaken taking_format (nothing_followed settings told rule width) S a progress bytes) → T (with_told h.1.state more) b
-    → HasTaken taking_format (nothing_followed settings (told ++ more) rule width) T b progress bytes
+    → (h : HasTaken taking_format (no_lines_followed settings told rule width) S a progress bytes) → T (with_told h.1.state more) b
+    → HasTaken taking_format (no_lines_followed settings (told ++ more) rule width) T b progress bytes
 taken_told settings rule width told more S T a b progress bytes h follows = (
   h.0,
   record {
@@ -92,13 +89,8 @@ taken_told settings rule width told more S T a b progress bytes h follows = (
 
 -- what is put by some settings is put by them still
 pub settings_of : (settings : FollowSettings) (rule : LossRule) (width : Width) (told : List Happening) {lines : List (List ℕ)} {state : TraceState Watched} (follow : FollowInput)
-    → IsRead taking_format (nothing_followed settings told rule width) lines state → HasFollowedLines state follow → follow.settings ≡ settings
+    → IsRead taking_format (no_lines_followed settings told rule width) lines state → HasFollowedLines state follow → follow.settings ≡ settings
 settings_of settings rule width told follow read stands = stands.settings ∙ ap (λ (s : Watched). s.settings) (read_alone read).0
-
--- what was read is of bytes
-pub read_bytes : (settings : FollowSettings) (rule : LossRule) (width : Width) (told : List Happening) {lines : List (List ℕ)} {state : TraceState Watched}
-    → IsRead taking_format (nothing_followed settings told rule width) lines state → HaveBytes state.said.entries
-read_bytes settings rule width told read = IsRead-keeps (λ (said : Said). AllByRecursion EntryHasBytes said.entries) line-bytes (read_alone read).3 tt
 
 -- ---- the text of what was followed
 
@@ -107,15 +99,15 @@ pub nothing_happened : (rule : LossRule) (width : Width) → HappenedBy rule wid
 nothing_happened rule width = record { said = nothing_said_in (shape_of width default_capacity); read = no_lines; happened_for = inl (refl, refl) }
 
 -- what was told is what happened
-happened_for : (state : TraceState Watched) (follow : FollowInput) → HasFollowedLines state follow → HaveBytes state.said.entries → IsAllPut follow.input.taker
+happened_for : (state : TraceState Watched) (follow : FollowInput) → HasFollowedLines state follow → IsAllPut follow.input.taker
     → ((state.said.entries ≡ []) × (state.state.told ≡ [])) ⊎ HasHappenedFor state.rule state.width state.said state.state.told
-happened_for state follow has bytes put = by_taker follow.input.taker has.lines.taken put where
+happened_for state follow has put = by_taker follow.input.taker has.lines.taken put where
   by_taker : (taker : Option ReceiverUnderWay)
       → WereTaken starts_watched HasFollowed state.state state.rule state.width follow.input.setup.setup taker state.said.entries → IsAllPut taker
       → ((state.said.entries ≡ []) × (state.state.told ≡ [])) ⊎ HasHappenedFor state.rule state.width state.said state.state.told
   by_taker None were put = inl (were.1, were.0)
   by_taker (Some now) were put =
-      let was = were.1.whole put.1 bytes in
+      let was = were.1.whole put.1 has.bytes in
       let so_far = was.beside.so_far in
       inr (record {
         setup = follow.input.setup.setup;
@@ -130,11 +122,11 @@ happened_for state follow has bytes put = by_taker follow.input.taker has.lines.
 
 -- so where lines were read to what a receiver stands for
 pub happened_by : (settings : FollowSettings) (rule : LossRule) (width : Width) (told : List Happening) (lines : List (List ℕ)) (state : TraceState Watched) (follow : FollowInput)
-    → IsRead taking_format (nothing_followed settings told rule width) lines state → HasFollowedLines state follow → IsAllPut follow.input.taker
+    → IsRead taking_format (no_lines_followed settings told rule width) lines state → HasFollowedLines state follow → IsAllPut follow.input.taker
     → HappenedBy rule width lines told
 happened_by settings rule width told lines state follow read stands put =
     let alone = read_alone read in
-    let happened = happened_for state follow stands (read_bytes settings rule width told read) put in
+    let happened = happened_for state follow stands put in
     record {
       said = state.said;
       read = alone.3;
@@ -146,7 +138,7 @@ happened_by settings rule width told lines state follow read stands put =
 
 -- so where lines were taken
 taken_by : (settings : FollowSettings) (rule : LossRule) (width : Width) (told : List Happening) (follower : Follower) (bytes : List ℕ)
-    → (took : HasTaken taking_format (nothing_followed settings told rule width) HasFollowedSoFar follower follower.lines bytes) → IsAllPut follower.input.input.taker
+    → (took : HasTaken taking_format (no_lines_followed settings told rule width) HasFollowedSoFar follower follower.lines bytes) → IsAllPut follower.input.input.taker
     → HappenedBy rule width took.1.lines told
 taken_by settings rule width told follower bytes took put =
     let are = took.1 in happened_by settings rule width told are.lines are.state follower.input are.read are.stands put
@@ -304,20 +296,20 @@ module _ (rule : LossRule) (width : Width) (settings : FollowSettings) where
 
 -- a fault of the lines that are handed in is one of the lines
 pub settled_alone : (settings : FollowSettings) (told : List Happening) (rule : LossRule) (width : Width) (bytes : List ℕ) (fault : TraceFault)
-    → IsSettledFault taking_format (nothing_followed settings told rule width) bytes (parse.Line fault)
+    → IsSettledFault taking_format (no_lines_followed settings told rule width) bytes (parse.Line fault)
     → IsSettledFault trace_format (nothing_said_in (shape_of width default_capacity)) bytes (parse.Line fault)
-settled_alone settings told rule width bytes fault settled = λ more. faulty_alone (nothing_followed settings told rule width) (lines_of (bytes ++ more)) fault (settled more)
+settled_alone settings told rule width bytes fault settled = λ more. faulty_alone (no_lines_followed settings told rule width) (lines_of (bytes ++ more)) fault (settled more)
 
 -- ---- a piece more
 
 -- nothing was handed in before the first line
 pub followed_nothing : (rule : LossRule) (width : Width) (settings : FollowSettings) (follower : Follower) → follower.input.settings ≡ settings → follower.lines ≡ no_progress
-    → HasFollowedSoFar (nothing_followed settings [] rule width) follower → follower.input.input.taker ≡ None → HasFollowedBytes rule width settings [] [] follower
+    → HasFollowedSoFar (no_lines_followed settings [] rule width) follower → follower.input.input.taker ≡ None → HasFollowedBytes rule width settings [] [] follower
 followed_nothing rule width settings follower same none has begun = record {
   settings_are = same;
   taken =
-      subst (λ (progress : Progress). HasTaken taking_format (nothing_followed settings [] rule width) HasFollowedSoFar follower progress []) (sym none)
-      (refl, AreTaken-none taking_format (nothing_followed settings [] rule width) HasFollowedSoFar follower has);
+      subst (λ (progress : Progress). HasTaken taking_format (no_lines_followed settings [] rule width) HasFollowedSoFar follower progress []) (sym none)
+      (refl, AreTaken-none taking_format (no_lines_followed settings [] rule width) HasFollowedSoFar follower has);
   within = tt;
   numbered = λ lines rest parts. subst (λ (lines : List (List ℕ)). AreNumbered rule width lines []) (no_line lines rest parts) (numbered_nothing rule width (nothing_happened rule width));
   put = subst IsAllPut (sym begun) tt;
@@ -330,7 +322,7 @@ followed_nothing rule width settings follower same none has begun = record {
 pub followed_line : (rule : LossRule) (width : Width) (settings : FollowSettings) (bytes piece : List ℕ) (told : List HappenedAt) (before after : Follower)
     (happened : List Happening) (line : ℕ) → HasFollowedBytes rule width settings bytes told before → length (lines_of piece) ≤ 1
     → line ≡ after.lines.count
-    → HasTaken taking_format (nothing_followed settings (map happening_of told ++ happened) rule width) HasFollowedSoFar after after.lines (bytes ++ piece)
+    → HasTaken taking_format (no_lines_followed settings (map happening_of told ++ happened) rule width) HasFollowedSoFar after after.lines (bytes ++ piece)
     → IsAllPut after.input.input.taker → HasFollowedBytes rule width settings (bytes ++ piece) (told ++ all_at line happened) after
 followed_line rule width settings bytes piece told before after happened line has few is took put =
     let was = has.taken.1 in
@@ -344,7 +336,7 @@ followed_line rule width settings bytes piece told before after happened line ha
     few_parts next.0 next.1 (subst (λ (parts : List (List ℕ)). length (lines_of_parts parts) ≤ 1) next.2 few) in
     let told_now = told ++ all_at line happened in
     let taken_now =
-    subst (λ (all : List Happening). HasTaken taking_format (nothing_followed settings all rule width) HasFollowedSoFar after after.lines (bytes ++ piece))
+    subst (λ (all : List Happening). HasTaken taking_format (no_lines_followed settings all rule width) HasFollowedSoFar after after.lines (bytes ++ piece))
     (sym (all_of told line happened)) took in
     let by =
     subst (λ (all : List Happening). HappenedBy rule width now.lines all) (sym (all_of told line happened))
@@ -364,10 +356,10 @@ followed_line rule width settings bytes piece told before after happened line ha
 
 -- why a piece was not followed
 pub fault_of_piece : {Input : Type 0} (S : TraceState Watched → Input → Type 0) (input : Input) (settings : FollowSettings) (rule : LossRule) (width : Width) (bytes piece : List ℕ)
-    (told : List Happening) (progress : Progress) (fault : ParseFault) → HasTaken taking_format (nothing_followed settings told rule width) S input progress bytes
+    (told : List Happening) (progress : Progress) (fault : ParseFault) → HasTaken taking_format (no_lines_followed settings told rule width) S input progress bytes
     → IsPieceFault taking_format S input progress piece fault → IsFollowFault width (bytes ++ piece) (engine_fault (text_fault_of_parse fault))
 fault_of_piece S input settings rule width bytes piece told progress (parse.Line fault) was is = λ few.
-    settled_alone settings told rule width (bytes ++ piece) fault (is (nothing_followed settings told rule width) bytes was (omega (arith, few, length-append bytes piece)))
+    settled_alone settings told rule width (bytes ++ piece) fault (is (no_lines_followed settings told rule width) bytes was (omega (arith, few, length-append bytes piece)))
 fault_of_piece S input settings rule width bytes piece told progress parse.OutOfMemory was is = tt
 
 -- a fault of some bytes is one of more
@@ -414,9 +406,9 @@ fault_of_two width bytes first second third fault is =
 
 -- why the last line was not read
 pub end_fault : (settings : FollowSettings) (rule : LossRule) (width : Width) (told : List Happening) (bytes : List ℕ) (fault : ParseFault)
-    → (length bytes < 2 ^ 64 → IsReadingFault taking_format (nothing_followed settings told rule width) (lines_of bytes) fault)
+    → (length bytes < 2 ^ 64 → IsReadingFault taking_format (no_lines_followed settings told rule width) (lines_of bytes) fault)
     → IsEndFault width bytes (engine_fault (text_fault_of_parse fault))
-end_fault settings rule width told bytes (parse.Line fault) is = λ few. faulty_alone (nothing_followed settings told rule width) (lines_of bytes) fault (is few)
+end_fault settings rule width told bytes (parse.Line fault) is = λ few. faulty_alone (no_lines_followed settings told rule width) (lines_of bytes) fault (is few)
 end_fault settings rule width told bytes parse.OutOfMemory is = tt
 
 -- the lines of some bytes: those that line feeds end, and what is behind the last of those if there

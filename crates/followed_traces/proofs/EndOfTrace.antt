@@ -1,6 +1,6 @@
 -- What is put at the end of a trace that was followed is of the whole.
 use Rattle.std.proofs.Common.{◌≡◌, ℕ, Bool, true, false, List, [], ◌++◌, map, filter, refl, sym, ap, subst, ◌∙◌}
-use Rattle.std.specs.Prelude.{if◌then◌else◌}
+use Rattle.std.specs.Prelude.{if◌then◌else◌, flat_map}
 use Rattle.std.proofs.lemmas.Option.{same_Some}
 use Rattle.answers.specs.Beside.{AreCountedAlike}
 use Rattle.answers.specs.ToldAlike.{is_told_for}
@@ -19,11 +19,11 @@ use Rattle.text_lines.specs.Putting.{numbered_texts}
 use Rattle.texts.specs.declared.follow.happening.Happening.{Happening}
 use Rattle.texts.specs.declared.follow.happening.Happening.TheVariants.{Gave}
 use Rattle.texts.specs.declared.follow.settings.FollowSettings.{FollowSettings}
-use Rattle.texts.specs.Follow.{closed_flow, closed_told, closed_lines, tally_line}
+use Rattle.texts.specs.Follow.{closed_flow, closed_told, closed_lines, tally_line, lines_told}
 use Rattle.texts.specs.Replay.{IsSetupOf}
 use Rattle.texts.specs.Trace.Place.{Said}
 use Rattle.followed_traces.specs.declared.input.Followed.{Followed}
-use Rattle.followed_traces.specs.Followed.{IsFollowedTo}
+use Rattle.followed_traces.specs.End.{IsFollowedTo}
 use Rattle.followed_traces.specs.Inside.Watched.{Watched, EndsWhole}
 use Rattle.followed_traces.proofs.FollowedTrace.{same_lines}
 
@@ -46,7 +46,7 @@ counted_lines selected setup closed other alike =
     ap (λ (front : List ℕ). front ++ numbered_texts tally_line closed.lanes.items) flows
     ∙ ap (λ (lanes : List LaneTally). numbered_texts told other.flows.items ++ numbered_texts tally_line lanes) (sym alike.lanes)
 
--- so is what is left to be put
+-- what is left to be put is of the whole
 pub followed_to : (rule : LossRule) (width : Width) (said : Said) (state : Watched) (end : Followed) → end.settings ≡ state.settings → IsSetupOf said end.setup
     → (pending : List Happening) → end.happened.items ≡ pending
     → EndsWhole state (made_of rule width.channels end.setup) width.channels said.entries pending end.closed → IsFollowedTo rule width said state.told end
@@ -60,10 +60,16 @@ followed_to rule width said state end settings setup pending is ends = record {
   rest = ends.rest;
   counted = ends.counted;
   received = ends.received;
-  are = λ line. same_lines end.settings line end.happened.items (ends.last ++ map Gave ends.rest)
-      (subst (λ (s : FollowSettings). filter (is_told_for s.selected) end.happened.items ≡ filter (is_told_for s.selected) (ends.last ++ map Gave ends.rest)) (sym settings)
-      (ap (filter (is_told_for state.settings.selected)) is ∙ sym ends.same));
-  counts =
-      counted_lines end.settings.selected end.setup end.closed ends.counted
-      (subst (λ (s : FollowSettings). AreCountedAlike s.selected end.closed ends.counted) (sym settings) ends.alike);
+  same =
+      subst (λ (s : FollowSettings). filter (is_told_for s.selected) (ends.last ++ map Gave ends.rest) ≡ filter (is_told_for s.selected) end.happened.items) (sym settings)
+      (ends.same ∙ ap (filter (is_told_for state.settings.selected)) (sym is));
+  alike = subst (λ (s : FollowSettings). AreCountedAlike s.selected end.closed ends.counted) (sym settings) ends.alike;
 }
+
+-- so it has the lines of that
+module _ (rule : LossRule) (width : Width) (said : Said) (told : List Happening) (end : Followed) (to : IsFollowedTo rule width said told end) where
+  pub left_lines : (line : ℕ) → flat_map (lines_told end.settings line) end.happened.items ≡ flat_map (lines_told end.settings line) (to.last ++ map Gave to.rest)
+  left_lines line = same_lines end.settings line end.happened.items (to.last ++ map Gave to.rest) (sym to.same)
+
+  pub left_counts : closed_lines end.settings.selected end.setup end.closed ≡ closed_lines end.settings.selected end.setup to.counted
+  left_counts = counted_lines end.settings.selected end.setup end.closed to.counted to.alike

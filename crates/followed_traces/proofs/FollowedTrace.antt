@@ -59,7 +59,7 @@ use Rattle.answers.proofs.ToldOfWhole.{nothing_beside, one_more_beside, told_giv
 use Rattle.answers.proofs.ClosedBeside.{closes_beside}
 use Rattle.followed_traces.specs.declared.input.FollowInput.{FollowInput}
 use Rattle.followed_traces.specs.Inside.Watched.{TellsStandingIn, TellsStandingOf, TellsStandingIfAny, ReceiverUnderWay, would_be_followed, Watched, starts_watched, HappensForWhole, HasFollowed, IsNonePending, EndsFollowing}
-use Rattle.followed_traces.specs.Inside.Followed.{with_told, IsAllPut, PutsHappened}
+use Rattle.followed_traces.specs.Inside.Lines.{with_told, IsAllPut, PutsHappened}
 
 -- ---- how a flow stands
 
@@ -289,7 +289,7 @@ module _ (state : Watched) (rule : LossRule) (width : Width) (setup : Setup) (en
 
     -- an input that may stand in for one that came does so, by whatever answer
     pub stands_in_for : (place channel : ℕ) (came_in input : Input) (answer : Answer) (given : List Given) → channel ≡ place → place < width.channels
-        → MayStandFor would_be_followed (is_selected state.settings.selected) now place came_in input
+        → MayStandFor would_be_followed (is_selected state.settings.selected) (Some now) place came_in input
         → IsGivenSoFar made (has.others ++ came place (record { input = input; answer = answer }) ∷ []) given
         → EntryStandsIn (is_selected state.settings.selected) (came place (record { input = input; answer = answer })) (entry.came channel came_in)
     stands_in_for place channel came_in input answer given there within (inl same) so_far =
@@ -315,10 +315,10 @@ pub looked : (receiver : Receiver NoCheck) (place channel : ℕ) (input : Input)
 looked receiver place channel input flow same would = subst (λ (c : ℕ). WouldCome no_check receiver c input flow) same would
 
 -- nothing was handed in
-pub followed_nothing : (state : Watched) (rule : LossRule) (width : Width) (setup : Setup) (receiver : Receiver NoCheck) (pending : HappeningList)
+pub nothing_handed_in : (state : Watched) (rule : LossRule) (width : Width) (setup : Setup) (receiver : Receiver NoCheck) (pending : HappeningList)
     → state.told ≡ [] → StandsFor no_check receiver any_header (made_of rule width.channels setup) [] [] → ((k : ℕ) → IsSettledAt receiver k) → pending.happened.items ≡ []
     → HasFollowed state rule width setup [] (record { receiver = receiver; pending = pending })
-followed_nothing state rule width setup receiver pending none stands settled empty = record {
+nothing_handed_in state rule width setup receiver pending none stands settled empty = record {
   others = [];
   also = [];
   stands = stands;
@@ -397,16 +397,17 @@ puts_pending after line before now under under' out out' (Ok done) is is_now set
   put = put;
   none = subst IsAllPut (sym is_now) none;
   settings = settings;
-  told = λ state has bytes.
+  told = λ state has.
       let lines = has.lines in
       let taken = subst (λ (taker : Option ReceiverUnderWay). WereTaken starts_watched HasFollowed state.state state.rule state.width before.input.setup.setup taker state.said.entries)
       is lines.taken in
-      let was = taken.1.whole whole bytes in (
+      let was = taken.1.whole whole has.bytes in (
         was.rest,
         same_lines before.settings line under.pending.happened.items was.rest
             (subst (λ (s : FollowSettings). filter (is_told_for s.selected) under.pending.happened.items ≡ filter (is_told_for s.selected) was.rest) (sym has.settings) (sym was.same)),
         record {
           settings = settings ∙ has.settings;
+          bytes = has.bytes;
           lines = record {
             width_is = width ∙ lines.width_is;
             rule_is = rule ∙ lines.rule_is;
@@ -432,7 +433,7 @@ puts_none after line before now out put is is_now settings width rule setup = re
   put = put;
   none = subst IsAllPut (sym is_now) tt;
   settings = settings;
-  told = λ state has bytes.
+  told = λ state has.
       let lines = has.lines in
       let taken = subst (λ (taker : Option ReceiverUnderWay). WereTaken starts_watched HasFollowed state.state state.rule state.width before.input.setup.setup taker state.said.entries)
       is lines.taken in (
@@ -440,6 +441,7 @@ puts_none after line before now out put is is_now settings width rule setup = re
         refl,
         record {
           settings = settings ∙ has.settings;
+          bytes = has.bytes;
           lines = record {
             width_is = width ∙ lines.width_is;
             rule_is = rule ∙ lines.rule_is;

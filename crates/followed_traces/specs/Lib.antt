@@ -1,2 +1,2 @@
-pub mod Followed
+pub mod End
 pub mod Inside

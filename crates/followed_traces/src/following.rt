@@ -1,5 +1,5 @@
 //! A receiver under way to which what the lines of a trace say is handed in, and what happens.
-ghost use Rattle.std.specs.Prelude.{◌≡◌, ◌<◌, [], ◌∷◌, ◌++◌, flat_map, true, List, IfOk, OnOk, OnErr};
+ghost use Rattle.std.specs.Prelude.{◌≡◌, ◌<◌, [], ◌∷◌, ◌++◌, flat_map, true, List, Some, IfOk, OnOk, OnErr};
 ghost use Rattle.flow_selection.specs.Selection.{is_selected};
 ghost use Rattle.lane.specs.declared.input.Input.{Input};
 ghost use Rattle.loss_rule.specs.declared.rule.LossRule.{LossRule};
@@ -97,7 +97,7 @@ impl Following {
         ensures { (state : Watched) (rule : LossRule) (width : Width) (setup : Setup)
             (entries : List Entry) (came_in : Input) → channel < width.channels
             → MayStandFor would_be_followed (is_selected state.settings.selected)
-            self channel came_in input
+            (Some self) channel came_in input
             → HasFollowed state rule width setup entries self
             → IfOk result (HasFollowed state rule width setup
             (entries ++ came channel came_in ∷ [])) }

@@ -4,15 +4,14 @@ ghost use Rattle.flow_selection.specs.Selection.{is_selected};
 ghost use Rattle.lane.specs.declared.input.Input.{Input};
 ghost use Rattle.text_lines.specs.Putting.{Puts};
 ghost use Rattle.texts.specs.Inside.SetupLines.{AddsTo};
-ghost use Rattle.texts.specs.Inside.StandIn.{MayStandForAt};
-ghost use Rattle.texts.specs.Inside.TraceInput.{TraceState};
+ghost use Rattle.texts.specs.Inside.StandIn.{MayStandFor};
+ghost use Rattle.texts.specs.Inside.TraceInput.{TraceState, HasTakenLines};
 ghost use Rattle.texts.specs.declared.trace.line.TraceLine.TheVariants as line;
-ghost use Rattle.followed_traces.specs.Followed.{IsFollowedTo, end_text};
-ghost use Rattle.followed_traces.specs.Inside.Watched.{Watched};
-ghost use Rattle.followed_traces.specs.Inside.Followed.{HasFollowedLines, PutsHappened};
+ghost use Rattle.followed_traces.specs.End.{IsFollowedTo, end_text};
+ghost use Rattle.followed_traces.specs.Inside.Watched.{Watched, starts_watched, HasFollowed};
 ghost use Rattle.followed_traces.specs.Inside.Watched.{would_be_followed};
-ghost use Rattle.followed_traces.specs.Inside.Followed.{nothing_followed};
-ghost use Rattle.followed_traces.specs.Inside.Watched.{HaveBytes};
+ghost use Rattle.followed_traces.specs.Inside.Lines.{HasFollowedLines, PutsHappened};
+ghost use Rattle.followed_traces.specs.Inside.Lines.{no_lines_followed};
 
 use super::following::Following;
 use lane::Input;
@@ -45,7 +44,7 @@ impl FollowInput {
     ) -> Result<FollowInput, AllocError>
         ensures settings { IfOk result (λ follow. follow.settings ≡ settings) }
         ensures nothing { IfOk result (λ follow.
-            HasFollowedLines (nothing_followed settings [] rule width) follow) }
+            HasFollowedLines (no_lines_followed settings [] rule width) follow) }
         ensures put { IfOk result (λ follow. follow.input.taker ≡ None) }
     {
         let in_part = !leaves_none_out(&settings.selected, usize::from(width.flows()));
@@ -74,15 +73,17 @@ impl FollowInput {
     /// stand in for it.
     fn add_in_place(&mut self, alloc: Global, channel: u8, input: Input) -> Result<(), LineFault>
         requires { channel < self.old.input.width.channels }
-        ensures { (given : TraceState Watched) (came : Input)
-            → MayStandForAt would_be_followed (is_selected given.state.settings.selected)
+        ensures lines { (given : TraceState Watched) (came : Input)
+            → MayStandFor would_be_followed (is_selected given.state.settings.selected)
             self.old.input.taker channel came input
-            → AddsTo (λ said follow. HasFollowedLines (record given { said = said }) follow)
+            → AddsTo (λ said follow. HasTakenLines starts_watched HasFollowed
+            (record given { said = said }) follow.input.width follow.input.rule
+            follow.input.setup follow.input.taker)
             self.old (line.Input channel came) result self.new }
+        ensures settings { self.new.settings ≡ self.old.settings }
     {
         let taker = self.input.take_taker(alloc)?;
-        self.input
-            .put_taker(taker.take_in_place(alloc, channel, input)?);
+        self.input.taker = Some(taker.take_in_place(alloc, channel, input)?);
         Ok(())
     }
 }
@@ -90,7 +91,7 @@ impl FollowInput {
 impl TakeLine for FollowInput {
     ghost use Rattle.texts.specs.Inside.TraceInput.{TraceState, taking_format};
     ghost use Rattle.followed_traces.specs.Inside.Watched.{Watched};
-    ghost use Rattle.followed_traces.specs.Inside.Followed.{HasFollowedLines};
+    ghost use Rattle.followed_traces.specs.Inside.Lines.{HasFollowedLines};
 
     ghost State = { TraceState Watched };
 
@@ -127,7 +128,7 @@ pub struct Followed {
 pub fn finish_follow(alloc: Global, lines: FollowInput) -> Result<Followed, AllocError>
     ensures settings { IfOk result (λ end. end.settings ≡ lines.settings) }
     ensures to { IfOk result (λ end. (state : TraceState Watched)
-        → HasFollowedLines state lines → HaveBytes state.said.entries
+        → HasFollowedLines state lines
         → IsFollowedTo state.rule state.width state.said state.state.told end) }
 {
     let FollowInput {

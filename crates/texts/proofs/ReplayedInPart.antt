@@ -36,7 +36,7 @@ use Rattle.texts.specs.Replay.{IsSetupOf}
 use Rattle.texts.specs.Inside.InPlace.{said_lane, IsInPlaceOf, IsBoundElsewhere, AreInPlace, with_entries, other_lines, HasReplayedInPart, IsPlayedInPart}
 use Rattle.texts.specs.Inside.Replayed.{HasReplayedLines, would_be_replayed}
 use Rattle.texts.specs.Inside.SetupLines.{SetupSoFar, HasSetup, HasMore}
-use Rattle.texts.specs.Inside.StandIn.{IsForAnotherAt, MayStandForAt}
+use Rattle.texts.specs.Inside.StandIn.{IsForAnother, MayStandFor}
 use Rattle.texts.specs.Inside.TraceInput.{TraceState, taking_format}
 use Rattle.texts.proofs.TraceLines.{IsLate, word_of_late, faultless_in_place}
 use Rattle.texts.proofs.TraceSoFar.{input_without_fault}
@@ -186,14 +186,14 @@ bound_elsewhere selected said so_far channel input looked has bound other answer
 
 -- what may stand in for a burst where lines were replayed stands in its place
 pub in_its_place : (selected : ℕ → Bool) (state : TraceState (Unit {0})) (width : Width) (rule : LossRule) (so_far : SetupSoFar) (taker : Option (Replaying NoCheck))
-    → HasReplayedLines state width rule so_far taker → (channel : ℕ) (came_in input : Input) → MayStandForAt would_be_replayed selected taker channel came_in input
+    → HasReplayedLines state width rule so_far taker → (channel : ℕ) (came_in input : Input) → MayStandFor would_be_replayed selected taker channel came_in input
     → IsInPlaceOf selected state.said channel came_in input
 in_its_place selected state width rule so_far taker has channel came_in input (inl same) =
     subst (λ (other : Input). IsInPlaceOf selected state.said channel came_in other) (sym same) (itself selected state.said channel came_in)
 in_its_place selected state width rule so_far taker has channel came_in input (inr another) =
     of_another selected state.said channel came_in input another.0 (away taker has another.1)
   where
-    away : (taker : Option (Replaying NoCheck)) → HasReplayedLines state width rule so_far taker → IsForAnotherAt would_be_replayed selected taker channel input
+    away : (taker : Option (Replaying NoCheck)) → HasReplayedLines state width rule so_far taker → IsForAnother would_be_replayed selected taker channel input
         → IsBoundElsewhere selected state.said channel input
     away None has is = absurd is
     away (Some replaying) has is =

@@ -16,7 +16,7 @@ use Rattle.texts.specs.declared.follow.happening.Happening.{Happening}
 use Rattle.texts.specs.Follow.{told_lines, IsFollowed, IsFollowedSoFar}
 use Rattle.texts.specs.Happened.{HappenedBy, HappenedAt, happening_of, AreNumbered}
 use Rattle.followed_traces.specs.Inside.Watched.{Watched}
-use Rattle.followed_traces.specs.Inside.Followed.{nothing_followed, HasFollowedLines, IsAllPut}
+use Rattle.followed_traces.specs.Inside.Lines.{no_lines_followed, HasFollowedLines, IsAllPut}
 use Rattle.texts.specs.Trace.Line.{shape_of}
 use Rattle.texts.specs.Trace.Place.{nothing_said_in, trace_format}
 use Rattle.texts.specs.Inside.TraceInput.{TraceState, taking_format}
@@ -44,7 +44,7 @@ AreWithin lines (one ∷ told) = (one.line ≤ lines) × AreWithin lines told
 -- and all that happened by them was told, each thing by the number of its line.
 pub record HasFollowedBytes (rule : LossRule) (width : Width) (settings : FollowSettings) (bytes : List ℕ) (told : List HappenedAt) (follower : Follower) : Type 0 where
   pub settings_are : follower.input.settings ≡ settings
-  pub taken : HasTaken taking_format (nothing_followed settings (map happening_of told) rule width) HasFollowedSoFar follower follower.lines bytes
+  pub taken : HasTaken taking_format (no_lines_followed settings (map happening_of told) rule width) HasFollowedSoFar follower follower.lines bytes
   pub within : AreWithin follower.lines.count told
   pub numbered : (lines : List (List ℕ)) (rest : List ℕ) → slice_split is_line_feed bytes ≡ lines ++ rest ∷ [] → AreNumbered rule width lines told
   pub put : IsAllPut follower.input.input.taker
@@ -86,7 +86,7 @@ all_at line happened = map (λ one. record { line = line; happening = one }) hap
 pub record HasEnded (rule : LossRule) (width : Width) (settings : FollowSettings) (bytes : List ℕ) (told : List HappenedAt) (ended : EndedTrace) : Type 0 where
   pub settings_are : ended.input.settings ≡ settings
   pub state : TraceState Watched
-  pub read : IsRead taking_format (nothing_followed settings (map happening_of told) rule width) (lines_of bytes) state
+  pub read : IsRead taking_format (no_lines_followed settings (map happening_of told) rule width) (lines_of bytes) state
   pub stands : HasFollowedLines state ended.input
   pub numbered : (happened : List Happening) → HappenedBy rule width (lines_of bytes) (map happening_of told ++ happened)
       → AreNumbered rule width (lines_of bytes) (told ++ all_at ended.line happened)

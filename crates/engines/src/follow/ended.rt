@@ -2,7 +2,7 @@
 ghost use Rattle.std.specs.Prelude.{◌≡◌, []};
 ghost use Rattle.engines.specs.Inside.Following.{PutsPending, WritesPending, ClosesFollowed};
 ghost use Rattle.engines.specs.Writing.{IsWritten};
-ghost use Rattle.followed_traces.specs.Followed.{end_text};
+ghost use Rattle.followed_traces.specs.End.{end_text};
 
 use crate::device::Device;
 use crate::fault::{EngineFault, WriteFault};

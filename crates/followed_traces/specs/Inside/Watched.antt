@@ -28,8 +28,8 @@ use Rattle.texts.specs.AnyHeader.{any_header, no_check}
 use Rattle.texts.specs.Happened.{IsOfTrace, AreHandedIn, HasHappened}
 
 -- each of these that is a burst is of bytes
-abbrev pub HaveBytes : List Entry → Type 0
-HaveBytes entries = AllByRecursion EntryHasBytes entries
+abbrev pub AreOfBytes : List Entry → Type 0
+AreOfBytes entries = AllByRecursion EntryHasBytes entries
 
 -- How a flow of a receiver stands is told that has this slot; nothing is told of one that has none.
 abbrev pub TellsStandingIn : Receiver NoCheck → ℕ → List Happening → Option FlowSlot → Type 0
@@ -84,7 +84,7 @@ pub record HasFollowed (state : Watched) (rule : LossRule) (width : Width) (setu
   pub stands : StandsFor no_check now.receiver any_header (made_of rule width.channels setup) others also
   pub settled : (k : ℕ) → IsSettledAt now.receiver k
   pub each : All (IsOfTrace width.channels) others
-  pub whole : now.pending.whole ≡ true → HaveBytes entries → HappensForWhole state (made_of rule width.channels setup) others also entries now.pending.happened.items
+  pub whole : now.pending.whole ≡ true → AreOfBytes entries → HappensForWhole state (made_of rule width.channels setup) others also entries now.pending.happened.items
 
 -- nothing is pending
 abbrev pub IsNonePending : ReceiverUnderWay → Type 0
@@ -108,4 +108,4 @@ pub record EndsWhole (state : Watched) (made : TableSetup) (channels : ℕ) (ent
 -- the receiver is closed, and all that happened was told or is pending
 abbrev pub EndsFollowing : Watched → LossRule → Width → Setup → List Entry → HappeningList → Closed → Type 0
 EndsFollowing state rule width setup entries pending closed =
-    pending.whole ≡ true → HaveBytes entries → EndsWhole state (made_of rule width.channels setup) width.channels entries pending.happened.items closed
+    pending.whole ≡ true → AreOfBytes entries → EndsWhole state (made_of rule width.channels setup) width.channels entries pending.happened.items closed

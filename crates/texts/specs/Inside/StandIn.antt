@@ -7,27 +7,20 @@ use Rattle.texts.specs.declared.trace.line.TraceLine.TheVariants as line
 use Rattle.texts.specs.Trace.Line.{shape_of, Carries}
 
 module _ {P : Type 0} (would_come : P → ℕ → Input → Option ℕ → Type 0) (selected : ℕ → Bool) where
-  -- what takes the entries says that this input, if it came on this channel now, would come to no
-  -- selected flow
-  abbrev pub IsForAnother : P → ℕ → Input → Type 0
-  IsForAnother taker channel input = (flow : Option ℕ) × would_come taker channel input flow × IfSome flow (λ k. selected k ≡ false)
-
-  -- so it does if there is something that takes them yet
-  abbrev pub IsForAnotherAt : Option P → ℕ → Input → Type 0
-  IsForAnotherAt None channel input = ⊥
-  IsForAnotherAt (Some taker) channel input = IsForAnother taker channel input
+  -- What takes the entries, if something does yet, says that this input, if it came on this channel
+  -- now, would come to no selected flow.
+  abbrev pub IsForAnother : Option P → ℕ → Input → Type 0
+  IsForAnother None channel input = ⊥
+  IsForAnother (Some taker) channel input = (flow : Option ℕ) × would_come taker channel input flow × IfSome flow (λ k. selected k ≡ false)
 
   -- **An input may stand in for the one that came** on this channel: it is that one, or it looks
   -- like it, and would come to no selected flow.
-  abbrev pub MayStandFor : P → ℕ → Input → Input → Type 0
+  abbrev pub MayStandFor : Option P → ℕ → Input → Input → Type 0
   MayStandFor taker channel came input = (input ≡ came) ⊎ (LooksLike input came × IsForAnother taker channel input)
-
-  abbrev pub MayStandForAt : Option P → ℕ → Input → Input → Type 0
-  MayStandForAt taker channel came input = (input ≡ came) ⊎ (LooksLike input came × IsForAnotherAt taker channel input)
 
   -- this may be handed in, on this channel, in the place of what a line with these fields says that
   -- came
   pub record StandsInForLine (width : Width) (taker : Option P) (fields : List (List ℕ)) (channel : ℕ) (input : Input) : Type 0 where
     pub came : Input
     pub carries : (ring : ℕ) → Carries (shape_of width ring) fields (line.Input channel came)
-    pub may : MayStandForAt taker channel came input
+    pub may : MayStandFor taker channel came input

@@ -31,7 +31,7 @@ taking_format = record {
 }
 
 module _ {State P : Type 0} (starts : State → Type 0) (has_taken : State → LossRule → Width → Setup → List Entry → P → Type 0) where
-  -- These entries were handed in, to what begins with the first of them.
+  -- These entries were handed in, or what may stand in for them, to what begins with the first.
   abbrev pub WereTaken : State → LossRule → Width → Setup → Option P → List Entry → Type 0
   WereTaken state rule width setup None entries = starts state × (entries ≡ [])
   WereTaken state rule width setup (Some taker) entries = (0 < length entries) × has_taken state rule width setup entries taker

@@ -90,6 +90,9 @@ pub fn leaves_none_out(selected: &Selection, flows: usize) -> bool
     ensures some { IsFalse result
         → (k : ℕ) × (k < flows) × (is_selected selected.now k ≡ false) }
 {
+    if let Selection::All = selected {
+        return true;
+    }
     for flow in 0..flows {
         if !selected.has(flow) {
             return false;

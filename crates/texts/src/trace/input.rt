@@ -39,7 +39,7 @@ impl<P: TakeEntries + Drop> TraceInput<P> {
     ghost use Rattle.texts.specs.Trace.Line.{word_of, flow_line, sid_line, burst_line};
     ghost use Rattle.texts.specs.Inside.TraceInput.{TraceState, nothing_taken, HasTakenLines};
     ghost use Rattle.texts.specs.Inside.SetupLines.{IsCarried, SetsUp, AddsTo};
-    ghost use Rattle.texts.specs.Inside.StandIn.{IsForAnotherAt, StandsInForLine};
+    ghost use Rattle.texts.specs.Inside.StandIn.{IsForAnother, StandsInForLine};
 
     /// A trace for a receiver of this width, of which no line was read yet. Losses are decided by
     /// this rule.
@@ -100,13 +100,6 @@ impl<P: TakeEntries + Drop> TraceInput<P> {
         }
     }
 
-    /// The width of the receiver.
-    pub fn width(&self) -> Width
-        ensures { result ≡ self.now.width }
-    {
-        self.width
-    }
-
     /// Hands in what came in on a channel.
     pub(crate) fn add_input(
         &mut self,
@@ -142,7 +135,7 @@ impl<P: TakeEntries + Drop> TraceInput<P> {
     /// it would come to one of them, or nothing was handed in that says to which.
     fn is_wanted(&self, selected: &Selection, channel: u8, input: &Input) -> bool
         requires channel { channel < self.now.width.channels }
-        ensures { IsFalse result → IsForAnotherAt P.would_come (is_selected selected.now)
+        ensures { IsFalse result → IsForAnother P.would_come (is_selected selected.now)
             self.now.taker channel input.now }
     {
         let Some(taker) = &self.taker else {
@@ -207,16 +200,6 @@ impl<P: TakeEntries + Drop> TraceInput<P> {
             Some(taker) => Ok(taker),
             None => P::begin(alloc, self.width, self.rule, self.setup.setup()),
         }
-    }
-
-    /// Puts in what takes the inputs and decisions.
-    pub fn put_taker(&mut self, taker: P)
-        ensures taker { self.new.taker ≡ Some taker }
-        ensures width { self.new.width ≡ self.old.width }
-        ensures rule { self.new.rule ≡ self.old.rule }
-        ensures setup { self.new.setup ≡ self.old.setup }
-    {
-        self.taker = Some(taker);
     }
 }
 

@@ -22,7 +22,7 @@ pub trait TakeEntries: Sized {
     // Whether it is for a receiver of this width.
     ghost fits: { Width → Bool };
     // By this rule, for a receiver of this width with this setup, these entries were handed in, in
-    // this order, and nothing else.
+    // this order, and nothing else; or what may stand in for them was.
     ghost has_taken: { State → LossRule → Width → Setup → List Entry → Self → Type 0 };
     // A segment of this input, if it came on this channel now, would be admitted to this flow; or
     // none would be.

@@ -9,7 +9,7 @@ use Rattle.std.proofs.lemmas.Result.{err_from_is_err_and}
 use Rattle.engines.specs.declared.fault.EngineFault.TheVariants.{OutOfMemory}
 use Rattle.engines.specs.Inside.Following.{HasFollowedSoFar, all_at}
 use Rattle.engines.proofs.NumberedHappenings.{lines_at}
-use Rattle.engines.proofs.FollowedLines.{retaken, taken_told, settings_of, read_bytes, told_above, fault_of_piece, followed_line}
+use Rattle.engines.proofs.FollowedLines.{retaken, taken_told, settings_of, told_above, fault_of_piece, followed_line}
 use Rattle.text_lines.proofs.PutTexts.{puts-nothing}
 use Rattle.engines.proofs.follow.Follower.take_line.Goals as goal
 
@@ -43,7 +43,7 @@ returns g c = λ rule width settings bytes told has.
     let line = c.line_count-line.result in
     let was = retaken _ _ HasFollowedSoFar _ c.args.self.now c.args.self.now.input (λ state stands. stands) c.args.self.now.lines bytes has.taken in
     let taken = c.in_ok-take_one_line.ensures.taken _ bytes was in
-    let tells = put.told taken.1.state taken.1.stands (read_bytes settings rule width (map happening_of told) taken.1.read) in
+    let tells = put.told taken.1.state taken.1.stands in
     let happened = tells.0 in
     let same = settings_of settings rule width (map happening_of told) _ taken.1.read taken.1.stands in (
       all_at line happened,

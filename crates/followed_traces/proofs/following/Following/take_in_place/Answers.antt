@@ -1,5 +1,5 @@
 -- An input was handed in, in the place of one that came.
-use Rattle.std.proofs.Common.{ℕ, ◌<◌, ◌++◌, ◌∷◌, [], Option, sym, ap, subst, ◌∙◌}
+use Rattle.std.proofs.Common.{ℕ, ◌<◌, ◌++◌, ◌∷◌, [], Option, Some, sym, ap, subst, ◌∙◌}
 use Rattle.flow_selection.specs.Selection.{is_selected}
 use Rattle.lane.specs.Inputs.{AnsweredInput}
 use Rattle.receiver.specs.Entries.{came}
@@ -27,8 +27,8 @@ returns-in-Ok c = λ state rule width setup entries came_in within may was.
     let made = made_of rule width.channels setup in
     let stands = replies.takes.stands any_header made has.others has.also has.stands in
     let added = c.add_reply.ensures in
-    let may_stand = subst (λ (now : ReceiverUnderWay). MayStandFor would_be_followed (is_selected state.settings.selected) now place came_in c.args.input) (sym c.self.view_is)
-    (subst (λ (on : ℕ). MayStandFor would_be_followed (is_selected state.settings.selected) c.args.self on came_in c.args.input) (sym c.from.ensures) may) in
+    let may_stand = subst (λ (now : ReceiverUnderWay). MayStandFor would_be_followed (is_selected state.settings.selected) (Some now) place came_in c.args.input) (sym c.self.view_is)
+    (subst (λ (on : ℕ). MayStandFor would_be_followed (is_selected state.settings.selected) (Some c.args.self) on came_in c.args.input) (sym c.from.ensures) may) in
     followed_more state rule width setup entries _ has gives c.take.new.self c.take.new.out one (came c.args.channel came_in) _ c.add_reply.new.happened
     within_place replies.takes
     (λ so_far. stands_in_for state rule width setup entries _ has gives place c.args.channel came_in c.args.input replies.answer _ (sym c.from.ensures) within_place may_stand so_far)

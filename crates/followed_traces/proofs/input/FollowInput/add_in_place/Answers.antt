@@ -1,5 +1,5 @@
 -- An input was handed in that may stand in for what the line says.
-use Rattle.std.proofs.Common.{◌<◌, subst, ◌∙◌}
+use Rattle.std.proofs.Common.{ℕ, ◌<◌, refl, subst}
 use Rattle.flow_selection.specs.Selection.{is_selected}
 use Rattle.receiver.specs.Entries.{came}
 use Rattle.receiver.specs.declared.width.Width.{Width}
@@ -9,19 +9,15 @@ use Rattle.followed_traces.specs.Inside.Watched.{starts_watched, HasFollowed}
 use Rattle.followed_traces.proofs.LinesOfWhole.{may_stand}
 use Rattle.followed_traces.proofs.input.FollowInput.add_in_place.Goals as goal
 
-pub returns : goal.returns
-returns c = λ given came_in may said has.
+pub returns-clause-lines : goal.returns-clause-lines
+returns-clause-lines c = λ given came_in may said has.
     let state = record given { said = said } in
-    let was = c.in_ok-taker.ensures.taker state has.lines in
-    let within = subst (λ (width : Width). c.args.channel < width.channels) has.lines.width_is c.requires in
+    let was = c.in_ok-taker.ensures.taker state has in
+    let within = subst (λ (width : Width). c.args.channel < width.channels) has.width_is c.requires in
     let stands = may_stand (is_selected given.state.settings.selected) c.args.self.now.input.taker c.in_ok-taker.taker c.in_ok-taker.ensures.same c.args.channel came_in c.args.input may in
     record {
       faultless = input_without_fault said c.args.channel came_in;
-      has = record {
-        settings = has.settings;
-        lines = entry_handed starts_watched HasFollowed state _ _ _ _ has.lines _ _ _ _ _ (came c.args.channel came_in)
-            (c.put_taker.ensures.width ∙ c.take_taker.ensures.width) (c.put_taker.ensures.rule ∙ c.take_taker.ensures.rule) (c.put_taker.ensures.setup ∙ c.take_taker.ensures.setup)
-            c.put_taker.ensures.taker
-            (c.in_ok-take_in_place.ensures given.state given.rule given.width c.args.self.now.input.setup.setup said.entries came_in within stands was);
-      };
+      has = entry_handed starts_watched HasFollowed state _ _ _ _ has _ _ _ _ _ (came c.args.channel came_in)
+          c.take_taker.ensures.width c.take_taker.ensures.rule c.take_taker.ensures.setup refl
+          (c.in_ok-take_in_place.ensures given.state given.rule given.width c.args.self.now.input.setup.setup said.entries came_in within stands was);
     }

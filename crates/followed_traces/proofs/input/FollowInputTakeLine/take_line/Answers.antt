@@ -8,7 +8,7 @@ use Rattle.text_lines.specs.Lines.{words_of}
 use Rattle.texts.specs.declared.follow.settings.FollowSettings.{FollowSettings}
 use Rattle.texts.specs.declared.trace.line.TraceLine.TheVariants as line
 use Rattle.texts.specs.Trace.Line.{TraceShape, word_of, burst_line, Carries}
-use Rattle.texts.specs.Inside.StandIn.{StandsInForLine, MayStandForAt}
+use Rattle.texts.specs.Inside.StandIn.{StandsInForLine, MayStandFor}
 use Rattle.texts.proofs.HandedLines.{taken_with}
 use Rattle.texts.proofs.ReplayedInPart.{burst_early}
 use Rattle.texts.proofs.TraceSoFar.{taken_in_place, refused_in_place}
@@ -28,10 +28,11 @@ returns-in-Some-clause-taken c = λ before has.
     (λ one. StandsInForLine would_be_followed (is_selected follow.settings.selected) follow.input.width follow.input.taker fields one.0 one.1))
     c.in-Some.is c.in_ok-channel.ensures.in_place in
     let carries = subst (λ (shape : TraceShape). Carries shape fields (line.Input channel stands.came)) (sym follow.input.shape ∙ has.lines.setup.shape) (stands.carries default_capacity) in
-    let may = subst (λ (settings : FollowSettings). MayStandForAt would_be_followed (is_selected settings.selected) follow.input.taker channel stands.came c.in-Some.input) has.settings stands.may in
-    rw burst (taken_with before _ _ c.add_in_place.result
+    let may = subst (λ (settings : FollowSettings). MayStandFor would_be_followed (is_selected settings.selected) follow.input.taker channel stands.came c.in-Some.input) has.settings stands.may in
+    rw burst (line_taken before follow c.add_in_place.new.self fields c.add_in_place.result has c.add_in_place.ensures.settings
+    (taken_with before _ _ c.add_in_place.result
     (taken_in_place before.said fields (burst_early before.said words) (line.Input channel stands.came) carries _ c.add_in_place.result
-    (c.add_in_place.ensures before stands.came may before.said has)))
+    (c.add_in_place.ensures.lines before stands.came may before.said has.lines))))
 
 pub returns-in-Some-clause-fault : goal.returns-in-Some-clause-fault
 returns-in-Some-clause-fault c = λ before has.
@@ -45,9 +46,9 @@ returns-in-Some-clause-fault c = λ before has.
     (λ one. StandsInForLine would_be_followed (is_selected follow.settings.selected) follow.input.width follow.input.taker fields one.0 one.1))
     c.in-Some.is c.in_ok-channel.ensures.in_place in
     let carries = subst (λ (shape : TraceShape). Carries shape fields (line.Input channel stands.came)) (sym follow.input.shape ∙ has.lines.setup.shape) (stands.carries default_capacity) in
-    let may = subst (λ (settings : FollowSettings). MayStandForAt would_be_followed (is_selected settings.selected) follow.input.taker channel stands.came c.in-Some.input) has.settings stands.may in
+    let may = subst (λ (settings : FollowSettings). MayStandFor would_be_followed (is_selected settings.selected) follow.input.taker channel stands.came c.in-Some.input) has.settings stands.may in
     rw burst (refused_in_place before.said fields (burst_early before.said words) (line.Input channel stands.came) carries _ c.add_in_place.result
-    (c.add_in_place.ensures before stands.came may before.said has))
+    (c.add_in_place.ensures.lines before stands.came may before.said has.lines))
 
 pub returns-clause-taken : goal.returns-clause-taken
 returns-clause-taken c = λ before has.

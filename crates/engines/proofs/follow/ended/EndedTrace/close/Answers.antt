@@ -1,11 +1,8 @@
 -- The rest was written, or the writer failed, or nothing was written.
 use Rattle.std.proofs.Common.{refl}
 use Rattle.std.proofs.lemmas.Result.{err_from_is_err_and}
-use Rattle.followed_traces.specs.Followed.{end_text}
-use Rattle.std.specs.Prelude.{map}
-use Rattle.texts.specs.Happened.{happening_of}
+use Rattle.followed_traces.specs.End.{end_text}
 use Rattle.engines.proofs.FollowedEnd.{followed_text}
-use Rattle.engines.proofs.FollowedLines.{read_bytes}
 use Rattle.engines.proofs.follow.ended.EndedTrace.close.Goals as goal
 
 pub returns-in_err-end : goal.returns-in_err-end
@@ -16,7 +13,7 @@ returns-in_err-end g c = λ rule width settings bytes told has.
 pub returns-in_err-write_end : goal.returns-in_err-write_end
 returns-in_err-write_end g c = λ rule width settings bytes told has.
     let p = err_from_is_err_and c.from_residual-in_err-write_end.result c.from_residual-in_err-write_end.ensures.1 in
-    let to = c.in_ok-end.ensures.to has.state has.stands (read_bytes settings rule width (map happening_of told) has.read) in
+    let to = c.in_ok-end.ensures.to has.state has.stands in
     let wrote = c.in_err-write_end.ensures in
     rw (p.1, p.2) (
       end_text c.args.self.line c.in_ok-end.end,
@@ -27,7 +24,7 @@ returns-in_err-write_end g c = λ rule width settings bytes told has.
 
 pub returns : goal.returns
 returns g c = λ rule width settings bytes told has.
-    let to = c.in_ok-end.ensures.to has.state has.stands (read_bytes settings rule width (map happening_of told) has.read) in
+    let to = c.in_ok-end.ensures.to has.state has.stands in
     let wrote = c.in_ok-write_end.ensures in (
       end_text c.args.self.line c.in_ok-end.end,
       followed_text rule width settings bytes told c.args.self has c.in_ok-end.end c.in_ok-end.ensures.settings to,

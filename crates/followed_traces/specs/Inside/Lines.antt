@@ -8,16 +8,18 @@ use Rattle.texts.specs.declared.follow.settings.FollowSettings.{FollowSettings}
 use Rattle.texts.specs.Follow.{lines_told}
 use Rattle.texts.specs.Inside.TraceInput.{TraceState, nothing_taken, HasTakenLines}
 use Rattle.followed_traces.specs.declared.input.FollowInput.{FollowInput}
-use Rattle.followed_traces.specs.Inside.Watched.{HaveBytes, ReceiverUnderWay, Watched, starts_watched, HasFollowed, IsNonePending}
+use Rattle.followed_traces.specs.Inside.Watched.{AreOfBytes, ReceiverUnderWay, Watched, starts_watched, HasFollowed, IsNonePending}
 
--- what the lines say was set up and followed, this was told, and these are the settings
+-- What the lines say, which is of bytes, was set up and followed, this was told, and these are the
+-- settings.
 pub record HasFollowedLines (state : TraceState Watched) (follow : FollowInput) : Type 0 where
   pub settings : follow.settings ≡ state.state.settings
+  pub bytes : AreOfBytes state.said.entries
   pub lines : HasTakenLines starts_watched HasFollowed state follow.input.width follow.input.rule follow.input.setup follow.input.taker
 
 -- what is known where no line was read, and this was told
-abbrev pub nothing_followed : FollowSettings → List Happening → LossRule → Width → TraceState Watched
-nothing_followed settings told rule width = nothing_taken (record { told = told; settings = settings }) rule width
+abbrev pub no_lines_followed : FollowSettings → List Happening → LossRule → Width → TraceState Watched
+no_lines_followed settings told rule width = nothing_taken (record { told = told; settings = settings }) rule width
 
 -- what is known where more was told
 abbrev pub with_told : TraceState Watched → List Happening → TraceState Watched
@@ -40,4 +42,4 @@ pub record PutsHappened {T : Type 0} (after : T → List ℕ → T → Type 0) (
   pub put : Puts after out text out'
   pub none : IsAllPut now.input.taker
   pub settings : now.settings ≡ before.settings
-  pub told : (state : TraceState Watched) → HasFollowedLines state before → HaveBytes state.said.entries → TellsOfWhole line before now text state
+  pub told : (state : TraceState Watched) → HasFollowedLines state before → TellsOfWhole line before now text state

@@ -1,5 +1,7 @@
 -- What a trace gives at its end that is followed.
-use Rattle.std.specs.Prelude.{◌≡◌, ℕ, List, ◌++◌, map, flat_map}
+use Rattle.std.specs.Prelude.{◌≡◌, ℕ, List, ◌++◌, map, filter, flat_map}
+use Rattle.answers.specs.Beside.{AreCountedAlike}
+use Rattle.answers.specs.ToldAlike.{is_told_for}
 use Rattle.consumer.specs.declared.given.Given.{Given}
 use Rattle.loss_rule.specs.declared.rule.LossRule.{LossRule}
 use Rattle.receiver.specs.declared.closing.Closed.{Closed}
@@ -16,9 +18,8 @@ use Rattle.texts.specs.Trace.Place.{Said}
 use Rattle.followed_traces.specs.declared.input.Followed.{Followed}
 
 -- What is known of the end of a trace whose lines say this, of which this was told: all was handed
--- in; what is left to be told has the lines of what happened by its last line and of what the
--- receiver of all of it gives as it is closed, and what was counted has its lines; all this but for
--- what is of flows that aren't selected.
+-- in; and what is left to be told is what happened by its last line and what the receiver of all of
+-- it gives as it is closed, with what was counted, but for what is of flows that aren't selected.
 pub record IsFollowedTo (rule : LossRule) (width : Width) (said : Said) (told : List Happening) (end : Followed) : Type 0 where
   pub setup : IsSetupOf said end.setup
   pub handed : List HandedIn
@@ -29,8 +30,8 @@ pub record IsFollowedTo (rule : LossRule) (width : Width) (said : Said) (told : 
   pub rest : List Given
   pub counted : Closed
   pub received : IsReceived any_header (made_of rule width.channels end.setup) handed (given ++ rest) counted
-  pub are : (line : ℕ) → flat_map (lines_told end.settings line) end.happened.items ≡ flat_map (lines_told end.settings line) (last ++ map Gave rest)
-  pub counts : closed_lines end.settings.selected end.setup end.closed ≡ closed_lines end.settings.selected end.setup counted
+  pub same : filter (is_told_for end.settings.selected) (last ++ map Gave rest) ≡ filter (is_told_for end.settings.selected) end.happened.items
+  pub alike : AreCountedAlike end.settings.selected end.closed counted
 
 -- the text of what is left to tell, where this is the last line's number, and of what was counted
 abbrev pub end_text : ℕ → Followed → List ℕ
