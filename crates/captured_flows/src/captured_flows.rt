@@ -15,7 +15,7 @@ use crate::flow_fault::FlowFault;
 use crate::setup::{flows_of, receiver_of, setup_of};
 use crate::sids::{SidFlows, channel_of};
 use crate::sound_burst::SoundBurst;
-use crate::taking::take;
+use crate::taking::{take, take_grant};
 use crate::waits::Waits;
 use capture_map::CaptureMap;
 use capture_rules::{Arrival, ClockCounts};
@@ -43,12 +43,8 @@ fn refuse<C: HeaderCheck + Drop, O: CaptureConsumer>(
         receiver.new out.new) }
     ensures receiving { IsReceiving C.accepts receiver.new }
 {
-    let grant = Input::Grant {
-        number: 0,
-        sid: burst.sid,
-        bytes: granted_to(&burst),
-    };
-    take(alloc, receiver, channel, grant, out)?;
+    let granted = granted_to(&burst);
+    take_grant(alloc, receiver, channel, burst.sid, granted, out)?;
     let input = Input::Burst {
         grant: 0,
         hcs_ok: burst.check,

@@ -11,7 +11,7 @@ ghost use Rattle.captured_flows.specs.Taking.{TakesBy, BreaksOff};
 use crate::capture_consumer::CaptureConsumer;
 use crate::flow_fault::FlowFault;
 use crate::sound_burst::SoundBurst;
-use crate::taking::{expected, restart, skip, take};
+use crate::taking::{expected, restart, skip, take, take_grant};
 use crate::waits::Waits;
 use capture_rules::{Arrival, Beginning, Begun, ChannelOrder, HandedOn, HeldTime, HeldTimes};
 use docsis_wire::HeaderCheck;
@@ -130,12 +130,7 @@ fn hand_in<C: HeaderCheck + Drop, O: CaptureConsumer>(
         granted,
         bytes,
     } = one.arrival.item;
-    let grant = Input::Grant {
-        number: 0,
-        sid,
-        bytes: granted,
-    };
-    take(alloc, receiver, channel, grant, out)?;
+    take_grant(alloc, receiver, channel, sid, granted, out)?;
     let burst = Input::Burst {
         grant: 0,
         hcs_ok: true,

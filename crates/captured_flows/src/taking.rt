@@ -2,6 +2,7 @@
 ghost use Rattle.std.specs.Prelude.{◌≡◌, ◌<◌, ◌∷◌, [], IfOk, OnErr};
 ghost use Rattle.reorder.specs.Limits.{modulus};
 ghost use Rattle.bonded_flows.specs.declared.decision.FlowDecision.{FlowDecision};
+ghost use Rattle.lane.specs.declared.input.Input.TheVariants.{Grant};
 ghost use Rattle.receiver.specs.HandedIn.{decided};
 ghost use Rattle.receiver.specs.Receiving.{IsReceiving, TakesMore, Replies, Restarts};
 ghost use Rattle.captured_flows.specs.AtHand.{IsAtHand};
@@ -97,4 +98,30 @@ pub(crate) fn take<C: HeaderCheck + Drop, O: Consumer>(
         Err(TakeError::NotTaken(_, _)) => Err(FlowFault::OutOfMemory),
         Err(TakeError::Unfinished { .. }) => Err(FlowFault::OutOfMemory),
     }
+}
+
+/// A grant of a service identifier is handed in, which the burst behind it spends at once: so one
+/// number does for all grants.
+pub(crate) fn take_grant<C: HeaderCheck + Drop, O: Consumer>(
+    alloc: Global,
+    receiver: &mut Receiver<C>,
+    channel: usize,
+    sid: u16,
+    bytes: u32,
+    out: &mut O,
+) -> Result<Reply, FlowFault>
+    requires at_hand { IsAtHand C.accepts receiver.old }
+    ensures replies { IfOk result (λ reply. Replies O.after C.accepts receiver.old out.old
+        channel (Grant 0 sid bytes) reply receiver.new out.new) }
+    ensures at_hand { IfOk result (λ _. IsAtHand C.accepts receiver.new) }
+    ensures fails { OnErr result
+        (TakesSome C.accepts O.after receiver.old out.old receiver.new out.new) }
+    ensures receiving { IsReceiving C.accepts receiver.new }
+{
+    let grant = Input::Grant {
+        number: 0,
+        sid,
+        bytes,
+    };
+    take(alloc, receiver, channel, grant, out)
 }

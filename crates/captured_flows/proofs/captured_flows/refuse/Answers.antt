@@ -7,19 +7,19 @@ use Rattle.captured_flows.proofs.captured_flows.refuse.Goals as goal
 
 pub returns-clause-takes : goal.returns-clause-takes
 returns-clause-takes g c =
-    let replies = subst (λ (n : ℕ). Replies g.O.Consumer.after g.C.HeaderCheck.accepts c.args.receiver.now c.args.out.now c.args.channel (Grant 0 c.args.burst.sid n) c.in_ok-take.field-0 c.take.new.receiver c.take.new.out)
-    c.granted_to.ensures c.in_ok-take.ensures.replies in
-    takes-unsound g.C.HeaderCheck.accepts g.O.Consumer.after g.O.CaptureConsumer.saw g.met.O.CaptureConsumer.begins g.met.O.CaptureConsumer.sees c.args.receiver.now c.take.new.receiver c.take-2.new.receiver
-    c.args.out.now c.take.new.out c.take-2.new.out c.args.channel c.args.burst c.in_ok-take.field-0 c.in_ok-reply.reply c.requires.unsound
-    replies c.in_ok-take.ensures.at_hand c.in_ok-reply.ensures.replies c.in_ok-reply.ensures.at_hand
+    let replies = subst (λ (n : ℕ). Replies g.O.Consumer.after g.C.HeaderCheck.accepts c.args.receiver.now c.args.out.now c.args.channel (Grant 0 c.args.burst.sid n) c.in_ok-take_grant.field-0 c.take_grant.new.receiver c.take_grant.new.out)
+    c.granted_to-granted.ensures c.in_ok-take_grant.ensures.replies in
+    takes-unsound g.C.HeaderCheck.accepts g.O.Consumer.after g.O.CaptureConsumer.saw g.met.O.CaptureConsumer.begins g.met.O.CaptureConsumer.sees c.args.receiver.now c.take_grant.new.receiver c.take.new.receiver
+    c.args.out.now c.take_grant.new.out c.take.new.out c.args.channel c.args.burst c.in_ok-take_grant.field-0 c.in_ok-reply.reply c.requires.unsound
+    replies c.in_ok-take_grant.ensures.at_hand c.in_ok-reply.ensures.replies c.in_ok-reply.ensures.at_hand
 
-pub returns-in_err-take-clause-breaks : goal.returns-in_err-take-clause-breaks
-returns-in_err-take-clause-breaks g c =
+pub returns-in_err-take_grant-clause-breaks : goal.returns-in_err-take_grant-clause-breaks
+returns-in_err-take_grant-clause-breaks g c =
     on-any_err c.from_residual.result
-    (breaks-untold g.C.HeaderCheck.accepts g.O.Consumer.after g.O.CaptureConsumer.saw g.met.O.CaptureConsumer.begins g.met.O.CaptureConsumer.sees c.args.receiver.now c.take.new.receiver c.args.out.now c.take.new.out c.in_err-take.ensures.fails)
+    (breaks-untold g.C.HeaderCheck.accepts g.O.Consumer.after g.O.CaptureConsumer.saw g.met.O.CaptureConsumer.begins g.met.O.CaptureConsumer.sees c.args.receiver.now c.take_grant.new.receiver c.args.out.now c.take_grant.new.out c.in_err-take_grant.ensures.fails)
 
 pub returns-in_err-reply-clause-breaks : goal.returns-in_err-reply-clause-breaks
 returns-in_err-reply-clause-breaks g c =
     on-any_err c.from_residual-in_err-reply.result
-    (breaks-untold g.C.HeaderCheck.accepts g.O.Consumer.after g.O.CaptureConsumer.saw g.met.O.CaptureConsumer.begins g.met.O.CaptureConsumer.sees c.args.receiver.now c.take-2.new.receiver c.args.out.now c.take-2.new.out
-    (some-then g.C.HeaderCheck.accepts g.O.Consumer.after g.O.CaptureConsumer.saw c.args.receiver.now c.take.new.receiver c.take-2.new.receiver c.args.out.now c.take.new.out c.take-2.new.out _ c.in_ok-take.ensures.replies.takes c.in_err-reply.ensures.fails))
+    (breaks-untold g.C.HeaderCheck.accepts g.O.Consumer.after g.O.CaptureConsumer.saw g.met.O.CaptureConsumer.begins g.met.O.CaptureConsumer.sees c.args.receiver.now c.take.new.receiver c.args.out.now c.take.new.out
+    (some-then g.C.HeaderCheck.accepts g.O.Consumer.after g.O.CaptureConsumer.saw c.args.receiver.now c.take_grant.new.receiver c.take.new.receiver c.args.out.now c.take_grant.new.out c.take.new.out _ c.in_ok-take_grant.ensures.replies.takes c.in_err-reply.ensures.fails))
