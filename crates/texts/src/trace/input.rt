@@ -131,7 +131,7 @@ impl<P: TakeEntries + Drop> TraceInput<P> {
         Ok(())
     }
 
-    /// Whether a burst like this one has to be handed in as it came, where these flows are selected:
+    /// Whether a burst like this one has to be handed in as it came, where some flows are selected:
     /// it would come to one of them, or nothing was handed in that says to which.
     fn is_wanted(&self, selected: &Selection, channel: u8, input: &Input) -> bool
         requires channel { channel < self.now.width.channels }
