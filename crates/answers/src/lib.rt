@@ -19,7 +19,9 @@
 //! Each function states a law in its contract; its body is empty or only calls another law.
 #![tactic(auto)]
 
-ghost use Rattle.std.specs.Prelude.{◌≡◌, ◌+◌, ◌*◌, ◌%◌, ◌≤◌, ◌<◌, ◌^◌, ◌∷◌, ◌++◌, ℕ, Bool, Option, List, [], Ok, length, map, filter, filter_map, sum_by, take};
+ghost use Rattle.std.specs.Prelude.{◌≡◌, ◌+◌, ◌*◌, ◌%◌, ◌≤◌, ◌<◌, ◌^◌, ◌∷◌, ◌++◌};
+ghost use Rattle.std.specs.Prelude.{ℕ, Bool, Option, List, [], Ok, length, map, filter};
+ghost use Rattle.std.specs.Prelude.{filter_map, sum_by, take};
 ghost use Rattle.std.specs.List.{concat, All, AllByRecursion, AllPass, AllZip};
 ghost use Rattle.hex.specs.Hex.{decode_of, is_hex_digit};
 ghost use Rattle.docsis_wire.specs.declared.segment.Segment.{Segment};
@@ -61,7 +63,8 @@ ghost use Rattle.receiver.specs.Entries.{Entry, tag_of, incoming_in};
 ghost use Rattle.texts.specs.Selected.{report_of, IsReplayedOf};
 ghost use Rattle.texts.specs.AnyHeader.{any_header};
 ghost use Rattle.texts.specs.declared.follow.happening.Happening.{Happening};
-ghost use Rattle.texts.specs.Happened.{IsOfTrace, AreHandedIn, IsGivenSoFar, Tells, HasHappened, HappenedBy};
+ghost use Rattle.texts.specs.Happened.{IsOfTrace, AreHandedIn, IsGivenSoFar, Tells};
+ghost use Rattle.texts.specs.Happened.{HasHappened, HappenedBy};
 ghost use Rattle.texts.specs.Trace.Line.{shape_of};
 ghost use Rattle.texts.specs.Trace.Place.{Said, nothing_said, nothing_said_in, trace_format};
 ghost use Rattle.texts.specs.Replay.{IsSetupOf, IsReplayed, IsReplayedBy};

@@ -1,5 +1,6 @@
 //! A receiver under way to which what the lines of a trace say is handed in, and what happens.
-ghost use Rattle.std.specs.Prelude.{◌≡◌, ◌<◌, [], ◌∷◌, ◌++◌, flat_map, true, List, Some, IfOk, OnOk, OnErr};
+ghost use Rattle.std.specs.Prelude.{◌≡◌, ◌<◌, [], ◌∷◌, ◌++◌, flat_map, true, List, Some};
+ghost use Rattle.std.specs.Prelude.{IfOk, OnOk, OnErr};
 ghost use Rattle.flow_selection.specs.Selection.{is_selected};
 ghost use Rattle.lane.specs.declared.input.Input.{Input};
 ghost use Rattle.loss_rule.specs.declared.rule.LossRule.{LossRule};

@@ -91,6 +91,22 @@ fn replaying_program_for_a_shard_is_refused(rt: HostRuntime) -> Result<(), Fail>
     run_program(rt, &words, TRACE.as_bytes(), LANES, &mut [0u8; 112])
 }
 
+/// The same where the trace is followed.
+const FOLLOWED_LANES: &str = "\
+lane 0 admitted 2 refusals 0
+lane 1 admitted 1 refusals 0
+lane 2 admitted 0 refusals 0
+lane 3 admitted 0 refusals 0
+";
+
+/// All bursts are of another flow, and each is stood in for.
+#[test]
+fn following_program_for_a_shard_is_refused(rt: HostRuntime) -> Result<(), Fail> {
+    let words = ["segrx", "follow", "--shard=1/2"];
+    let mut text = [0u8; 116];
+    run_program(rt, &words, TRACE.as_bytes(), FOLLOWED_LANES, &mut text)
+}
+
 /// Follows the trace into an array that is just large enough for what is printed of it.
 fn follow_into(alloc: Global, text: &mut [u8]) -> Result<(), EngineFault> {
     let mut reader = Device::new(TRACE.as_bytes());

@@ -192,6 +192,7 @@ impl<P: TakeEntries + Drop> TraceInput<P> {
             given.said.entries taker) }
         ensures same { IfOk result (λ taker.
             (one : P) → self.old.taker ≡ Some one → taker ≡ one) }
+        ensures none { self.new.taker ≡ None }
         ensures width { self.new.width ≡ self.old.width }
         ensures rule { self.new.rule ≡ self.old.rule }
         ensures setup { self.new.setup ≡ self.old.setup }
