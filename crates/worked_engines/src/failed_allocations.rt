@@ -102,7 +102,7 @@ lane 3 admitted 0 refusals 0
 /// All bursts are of another flow, and each is stood in for.
 #[test]
 fn following_program_for_a_shard_is_refused(rt: HostRuntime) -> Result<(), Fail> {
-    let words = ["segrx", "follow", "--shard=1/2"];
+    let words = ["segrx", "follow", "--channels=4", "--shard=1/2"];
     let mut text = [0u8; 116];
     run_program(rt, &words, TRACE.as_bytes(), FOLLOWED_LANES, &mut text)
 }
