@@ -1,8 +1,8 @@
-//! Why a burst isn't taken to the end.
+//! Why something isn't taken to the end.
 use std::alloc::{AllocError, AllocFailed};
 use thiserror::Error;
 
-/// Why a burst of a flow isn't taken to the end. After it nothing more is to be taken.
+/// Why something isn't taken to the end. After it nothing more is to be taken.
 #[derive(Clone, Copy, Debug, PartialEq, Eq, Error)]
 pub enum FlowFault {
     /// The receiver has no such flow or no such channel.

@@ -1,0 +1,4 @@
+pub mod StandIns
+pub mod Given
+pub mod Whole
+pub mod Taking
