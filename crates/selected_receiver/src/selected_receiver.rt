@@ -1,8 +1,9 @@
 //! The receiver that is handed in stand-ins.
-ghost use Rattle.std.specs.Prelude.{◌≡◌, ◌<◌, ◌≤◌, ◌↔◌, ◌∷◌, [], ℕ, Bool, List, true, Some, None, IfOk, IfErr, IfSome, OnErr, length, slice_get};
+ghost use Rattle.std.specs.Prelude.{All, ◌≡◌, ◌<◌, ◌≤◌, ◌↔◌, ◌∷◌, [], ℕ, Bool, List, true, Some, None, IfOk, IfErr, IfSome, OnErr, length, slice_get};
 ghost use Rattle.flow_records.specs.declared.record.FlowRecord.{FlowRecord};
 ghost use Rattle.reorder.specs.Limits.{modulus};
 ghost use Rattle.flow_selection.specs.Selection.{is_selected};
+ghost use Rattle.lane.specs.Inputs.{HasBytes};
 ghost use Rattle.consumer.specs.declared.given.Given.{Given};
 ghost use Rattle.bonded_flows.specs.declared.decision.FlowDecision.{FlowDecision};
 ghost use Rattle.bonded_flows.specs.Table.{TableSetup};
@@ -52,6 +53,21 @@ fn without_payload(input: Input) -> Input
             }
         }
         Input::Grant { .. } => input,
+    }
+}
+
+/// These numbers are bytes.
+fn are_bytes(bytes: &[u8])
+    ensures { All (λ byte. byte < 256) bytes.now }
+{
+}
+
+/// What a burst carries is of bytes, which costs nothing to know.
+fn has_bytes(input: &Input)
+    ensures { HasBytes input.now }
+{
+    if let Input::Burst { bytes, .. } = input {
+        are_bytes(bytes.as_slice());
     }
 }
 
@@ -176,6 +192,7 @@ impl<C: HeaderCheck + Drop> SelectedReceiver<C> {
         ensures receiving { IsReceivingWhole C.accepts self.new }
         ensures selected { self.new.selected ≡ self.old.selected }
     {
+        has_bytes(&input);
         let input = stand_in(&self.receiver, &self.selected, channel, input);
         match self.receiver.take(alloc, channel, input, out) {
             Ok(reply) => Ok(reply),

@@ -1,0 +1,323 @@
+-- What a receiver takes of stand-ins it takes of the whole.
+use Rattle.std.proofs.Common.{◌≡◌, ℕ, ◌<◌, ◌≤◌, ◌⊎◌, inl, inr, Bool, true, false, Option, Some, None, Result, Ok, Err, List, [], ◌∷◌, ◌++◌, length, map, refl, sym, ap, subst, ◌∙◌, append-nil}
+use Rattle.std.specs.Prelude.{slice_get, IfSome}
+use Rattle.std.specs.List.{AllZip}
+use Rattle.std.specs.Option.{option_map}
+use Rattle.std.proofs.lemmas.Bool.{eq-eqb, false≢true}
+use Rattle.std.proofs.lemmas.List.Elements.{filter_map-append}
+use Rattle.docsis_wire.proofs.StreamPlaces.{element_at, slice_get-at}
+use Rattle.flow_records.specs.declared.record.FlowRecord.{FlowRecord}
+use Rattle.flow_core.specs.declared.counts.FlowCounts.{FlowCounts}
+use Rattle.flow_selection.specs.declared.selection.Selection.{Selection}
+use Rattle.flow_selection.specs.Selection.{is_selected}
+use Rattle.lane.specs.declared.admitted.Admitted.{Admitted}
+use Rattle.lane.specs.declared.input.Input.{Input}
+use Rattle.lane.specs.declared.input.Input.TheVariants.{Grant, Burst}
+use Rattle.lane.specs.Inputs.{Answer, AnsweredInput, HasBytes, IsAnswer, AreAnswered}
+use Rattle.lane.specs.Report.{admitted_by}
+use Rattle.lane.proofs.LaneTaking.{answered-last}
+use Rattle.consumer.specs.declared.given.Given.{Given}
+use Rattle.consumer.specs.declared.given.Given.TheVariants.{Frame}
+use Rattle.consumer.specs.Given.{frames_of}
+use Rattle.bonded_flows.specs.Slots.{LeavesOf}
+use Rattle.bonded_flows.specs.Table.{TableSetup}
+use Rattle.bonded_flows.specs.declared.decision.FlowDecision.{FlowDecision}
+use Rattle.bonded_flows.specs.declared.flow_slot.DecideFault.{DecideFault}
+use Rattle.bonded_flows.specs.declared.flow_slot.DecideFault.TheVariants as decide_fault
+use Rattle.receiver.specs.declared.receiver.Receiver.{Receiver}
+use Rattle.receiver.specs.declared.closing.Closed.{Closed}
+use Rattle.receiver.specs.declared.reply.Reply.{Reply}
+use Rattle.receiver.specs.declared.reply.TakeError.{TakeError}
+use Rattle.receiver.specs.declared.reply.TakeError.TheVariants as take_error
+use Rattle.receiver.specs.declared.tallied_lane.TalliedLane.{TalliedLane}
+use Rattle.receiver.specs.Elsewhere.{LooksLike}
+use Rattle.receiver.specs.HandedIn.{HandedIn, came, decided, restarted, came_on, answered_on, lane_of}
+use Rattle.receiver.specs.Receiving.{StandsFor, TakesMore, Replies, Restarts, Fails, WouldCome}
+use Rattle.receiver.specs.Received.{Closes}
+use Rattle.receiver.proofs.Pairs.{zip_same}
+use Rattle.receiver.proofs.AnsweredInputs.{one_if, came-on}
+use Rattle.answers.specs.Beside.{CountsAs, AreAdmittedFor, AnswersInPlaceOf}
+use Rattle.answers.proofs.StandIns.{some_answer}
+use Rattle.selected_receiver.specs.declared.selected_receiver.SelectedReceiver.{SelectedReceiver}
+use Rattle.selected_receiver.specs.StandIns.{AreHeadedAlike, MayStandIn}
+use Rattle.selected_receiver.specs.Given.{ClosesFlow}
+use Rattle.selected_receiver.specs.Whole.{IsWhole, IsSeenOf, StandsForWhole, IsReceivingWhole}
+use Rattle.selected_receiver.specs.Taking.{WasSeen, TakesWhole, TakesSomeOfWhole, RepliesOfWhole, RestartsOfWhole, ClosesOfWhole}
+use Rattle.selected_receiver.proofs.AlikeWhole.{told-of_whole}
+use Rattle.selected_receiver.proofs.Grown.{whole-nothing, whole-more, whole-input, whole-decision, whole-restart, whole-closed, whole-answer}
+
+-- ---- what looks alike
+
+looks_same : (input : Input) → LooksLike input input
+looks_same (Grant number sid bytes) = refl
+looks_same (Burst number hcs_ok bytes) = (refl, refl, refl, refl)
+
+looks_back : (input other : Input) → LooksLike input other → LooksLike other input
+looks_back (Grant number sid bytes) other looks = subst (λ (i : Input). LooksLike i (Grant number sid bytes)) (sym looks) refl
+looks_back (Burst number hcs_ok bytes) (Grant other sid size) looks = absurd looks
+looks_back (Burst number hcs_ok bytes) (Burst other also more) looks = (sym looks.0, sym looks.1, sym looks.2, sym looks.3)
+
+-- ---- answers
+
+counts_same : (one : AnsweredInput) → CountsAs one one
+counts_same one = record { grants = λ number sid bytes is. is; granted_by = λ number sid bytes is. is; number = refl; spends = refl; accepts = refl }
+
+-- what is admitted in place of something is of its flow
+same_flow : {chosen : ℕ → Bool} (one other : Option Admitted) → AreAdmittedFor chosen one other
+    → option_map (λ (a : Admitted). a.flow) other ≡ option_map (λ (a : Admitted). a.flow) one
+same_flow None None are = refl
+same_flow None (Some other) are = absurd are
+same_flow (Some one) None are = absurd are
+same_flow (Some one) (Some other) are = ap Some are.flow
+
+-- what came on a channel with one input more
+own_inputs : (handed : List HandedIn) (channel : ℕ) (one : AnsweredInput) → answered_on channel (handed ++ came channel one ∷ []) ≡ answered_on channel handed ++ one ∷ []
+own_inputs handed channel one =
+    filter_map-append (came_on channel) handed (came channel one ∷ [])
+    ∙ ap (λ (t : List AnsweredInput). answered_on channel handed ++ t) (came-on channel channel one ∙ ap (λ (b : Bool). one_if b one) (eq-eqb channel channel refl))
+
+-- ---- what is known of a receiver of the code
+
+module _ {C : Type 0} (accepts : C → List ℕ → Bool) (receiver : Receiver C) (check : List ℕ → Bool) (made : TableSetup) where
+  -- a channel that it has is one of those that it is made with, and its lane there has answered all
+  -- that came
+  pub lane-there : (handed : List HandedIn) (given : List Given) → StandsFor accepts receiver check made handed given → (channel : ℕ) → channel < length receiver.lanes.items
+      → (channel < made.channels) × AreAnswered (lane_of made channel) (answered_on channel handed)
+  lane-there handed given stands channel exists =
+      let count = stands.lanes.count in
+      let found = element_at receiver.lanes.items channel exists in
+      (omega arith, (stands.lanes.each channel found.0 found.1).stands.answered)
+
+module _ (selected : Selection) (check : List ℕ → Bool) (made : TableSetup) where
+  abbrev chosen : ℕ → Bool
+  chosen = is_selected selected
+
+  -- ---- one input
+
+  module _ {C : Type 0} (accepts : C → List ℕ → Bool) (receiver : Receiver C) (others handed : List HandedIn) (also given : List Given)
+      (stands : StandsFor accepts receiver check made others also) (whole : IsWhole chosen check made others also handed given)
+      (channel : ℕ) (exists : channel < length receiver.lanes.items) (input other : Input) (may : MayStandIn accepts chosen receiver channel input other) where
+    abbrev taken : List AnsweredInput
+    taken = answered_on channel others
+
+    within : channel < made.channels
+    within = (lane-there accepts receiver check made others also stands channel exists).0
+
+    -- where a stand-in isn't the input itself, nothing is admitted of it to a selected flow
+    apart : (answer : Answer) → IsAnswer (lane_of made channel) taken other answer → LooksLike input other → (flow : Option ℕ) → WouldCome accepts receiver channel input flow
+        → IfSome flow (λ k. chosen k ≡ false) → (admitted : Admitted) → admitted_by answer ≡ Some admitted → chosen admitted.flow ≡ false
+    apart answer is looks flow would none admitted by =
+        let one : AnsweredInput = record { input = other; answer = answer } in
+        let found = some_answer (λ k. false) (lane_of made channel) taken taken (zip_same CountsAs counts_same taken) other answer input is
+        (record { looks_like = looks_back input other looks; same = λ a gives of_selected. absurd (false≢true of_selected) }) in
+        let its = would check made others also found.0 stands within found.1 in
+        let same = same_flow (admitted_by answer) (admitted_by found.0) found.2.admitted in
+        subst (λ (f : Option ℕ). IfSome f (λ k. chosen k ≡ false)) (sym its ∙ same ∙ ap (option_map (λ (a : Admitted). a.flow)) by) none
+
+    looks_real : LooksLike other input
+    looks_real = elim may [
+      | inl same ↦ subst (λ (i : Input). LooksLike i input) (sym same) (looks_same input)
+      | inr is ↦ looks_back input other is.0
+    ]
+
+    real_if : (answer : Answer) → IsAnswer (lane_of made channel) taken other answer → (admitted : Admitted) → admitted_by answer ≡ Some admitted
+        → chosen admitted.flow ≡ true → input ≡ other
+    real_if answer is admitted by of_selected = elim may [
+      | inl same ↦ sym same
+      | inr differs ↦
+          absurd (false≢true (sym (apart answer is differs.0 differs.1.0 differs.1.1 differs.1.2 admitted by) ∙ of_selected))
+    ]
+
+    -- What the whole's lane answers, in the place of an answer.
+    pub record RealAnswer (answer : Answer) : Type 0 where
+      pub real : Answer
+      pub is_answer : IsAnswer (lane_of made channel) (answered_on channel handed) input real
+      pub in_place : AnswersInPlaceOf chosen (record { input = other; answer = answer }) (record { input = input; answer = real })
+      pub headed : AreHeadedAlike (admitted_by answer) (admitted_by real)
+
+    pub real-answer : (answer : Answer) → IsAnswer (lane_of made channel) taken other answer → RealAnswer answer
+    real-answer answer is =
+        let found = whole-answer selected check made others also handed given whole channel (record { input = other; answer = answer }) input is looks_real (real_if answer is) in
+        record { real = found.0; is_answer = found.1; in_place = found.2; headed = found.3 }
+
+    -- so the whole grows by it
+    pub record TakesReal (receiver' : Receiver C) (also_more : List Given) (answer : Answer) : Type 0 where
+      pub its : RealAnswer answer
+      pub more : List Given
+      pub whole_then : IsWhole chosen check made (others ++ came channel (record { input = other; answer = answer }) ∷ []) (also ++ also_more)
+          (handed ++ came channel (record { input = input; answer = its.real }) ∷ []) (given ++ more)
+      pub seen : IsSeenOf selected more also_more
+
+    pub takes-real : (receiver' : Receiver C) (also_more : List Given) (answer : Answer) → HasBytes input
+        → StandsFor accepts receiver' check made (others ++ came channel (record { input = other; answer = answer }) ∷ []) (also ++ also_more)
+        → TakesReal receiver' also_more answer
+    takes-real receiver' also_more answer bytes stands' =
+        let one : AnsweredInput = record { input = other; answer = answer } in
+        let count : length receiver'.lanes.items ≡ made.channels = stands'.lanes.count in
+        let below = within in
+        let inside : channel < length receiver'.lanes.items = omega arith in
+        let all = (lane-there accepts receiver' check made (others ++ came channel one ∷ []) (also ++ also_more) stands' channel inside).1 in
+        let is = answered-last (lane_of made channel) taken one (subst (AreAnswered (lane_of made channel)) (own_inputs others channel one) all) in
+        let its = real-answer answer is in
+        let grown = whole-input selected check made others also handed given whole channel below one (record { input = input; answer = its.real }) its.in_place its.headed its.is_answer bytes
+        also_more stands'.flows.others in
+        record { its = its; more = grown.0; whole_then = grown.1; seen = grown.2 }
+
+-- ---- what is taken of stand-ins is taken of the whole
+
+module _ {C O : Type 0} (accepts : C → List ℕ → Bool) (after : O → List Given → O → Type 0) (old new : SelectedReceiver C) (out out' : O) (same : new.selected ≡ old.selected) where
+  stands-new : (check : List ℕ → Bool) (made : TableSetup) (others : List HandedIn) (also : List Given) (handed : List HandedIn) (given : List Given)
+      → StandsFor accepts new.receiver check made others also → IsWhole (is_selected old.selected) check made others also handed given
+      → StandsForWhole accepts new check made handed given
+  stands-new check made others also handed given stands whole = record {
+    others = others;
+    also = also;
+    stands = stands;
+    whole = subst (λ (s : Selection). IsWhole (is_selected s) check made others also handed given) (sym same) whole;
+  }
+
+  -- a decision
+  pub takes-decided : (flow : ℕ) (decision : FlowDecision) → TakesMore after accepts old.receiver out (decided flow decision ∷ []) new.receiver out'
+      → TakesWhole accepts after old out (decided flow decision ∷ []) new out'
+  takes-decided flow decision takes = record {
+    seen = takes.given_more;
+    was_seen = takes.was_given;
+    selected = same;
+    stands = λ check made handed given was.
+        let stands = takes.stands check made was.others was.also was.stands in
+        let grown = whole-decision old.selected check made was.others was.also handed given was.whole flow decision takes.given_more stands.flows.others in (
+          grown.0,
+          stands-new check made (was.others ++ decided flow decision ∷ []) (was.also ++ takes.given_more) (handed ++ decided flow decision ∷ []) (given ++ grown.0) stands grown.1,
+          grown.2,
+        );
+  }
+
+  -- nothing besides
+  pub takes-nothing : TakesMore after accepts old.receiver out [] new.receiver out' → TakesSomeOfWhole accepts after old out new out'
+  takes-nothing takes = record {
+    seen = takes.given_more;
+    was_seen = takes.was_given;
+    selected = same;
+    stands = λ check made handed given was.
+        let stands = subst (λ (h : List HandedIn). StandsFor accepts new.receiver check made h (was.also ++ takes.given_more)) (append-nil was.others)
+        (takes.stands check made was.others was.also was.stands) in
+        let grown = whole-more old.selected check made was.others was.also handed given was.whole takes.given_more stands.flows.others in (
+          [],
+          grown.0,
+          subst (λ (h : List HandedIn). StandsForWhole accepts new check made h (given ++ grown.0)) (sym (append-nil handed))
+              (stands-new check made was.others (was.also ++ takes.given_more) handed (given ++ grown.0) stands grown.1),
+          grown.2,
+        );
+  }
+
+  -- nothing at all
+  nothing-taken : new.receiver ≡ old.receiver → out' ≡ out → TakesMore after accepts old.receiver out [] new.receiver out'
+  nothing-taken still unchanged = record {
+    given_more = [];
+    was_given = λ start given was.
+        subst (λ (o : O). after start (given ++ []) o) (sym unchanged) (subst (λ (g : List Given). after start g out) (sym (append-nil given)) was);
+    stands = λ check made handed given stands.
+        subst (λ (r : Receiver C). StandsFor accepts r check made (handed ++ []) (given ++ [])) (sym still)
+        (subst (λ (h : List HandedIn). StandsFor accepts old.receiver check made h (given ++ [])) (sym (append-nil handed))
+        (subst (λ (g : List Given). StandsFor accepts old.receiver check made handed g) (sym (append-nil given)) stands));
+  }
+
+  -- so of something
+  some-of : (more : List HandedIn) → TakesWhole accepts after old out more new out' → TakesSomeOfWhole accepts after old out new out'
+  some-of more takes = record {
+    seen = takes.seen;
+    was_seen = takes.was_seen;
+    selected = takes.selected;
+    stands = λ check made handed given was. (more, takes.stands check made handed given was);
+  }
+
+  -- a decision that wasn't taken, or not to the end
+  pub some-decided : (flow : ℕ) (decision : FlowDecision) (fault : DecideFault)
+      → LeavesOf fault (TakesMore after accepts old.receiver out [] new.receiver out') (TakesMore after accepts old.receiver out (decided flow decision ∷ []) new.receiver out')
+      → TakesSomeOfWhole accepts after old out new out'
+  some-decided flow decision (decide_fault.NotTaken why) leaves = takes-nothing leaves
+  some-decided flow decision decide_fault.Unfinished leaves = some-of (decided flow decision ∷ []) (takes-decided flow decision leaves)
+
+  -- a flow that begins anew
+  pub takes-restart : (flow first : ℕ) (counts : FlowCounts) → Restarts after accepts old.receiver out flow first counts new.receiver out'
+      → RestartsOfWhole accepts after old out flow first counts new out'
+  takes-restart flow first counts restarts = record {
+    seen = restarts.more;
+    was_seen = restarts.was_given;
+    selected = same;
+    stands = λ check made handed given was.
+        let stands = restarts.stands check made was.others was.also was.stands in
+        let grown = whole-restart old.selected check made was.others was.also handed given was.whole flow first restarts.more counts stands.flows.others
+        (λ flow_record there. restarts.gave check made was.others was.also flow_record was.stands there) in (
+          grown.0,
+          grown.1,
+          stands-new check made (was.others ++ restarted flow first ∷ []) (was.also ++ map (Frame flow) restarts.more) (handed ++ restarted flow first ∷ [])
+              (given ++ map (Frame flow) grown.0) stands grown.2,
+          grown.3,
+          grown.4,
+        );
+  }
+
+  module _ (channel : ℕ) (input other : Input) (may : MayStandIn accepts (is_selected old.selected) old.receiver channel input other) (bytes : HasBytes input) where
+    -- an input
+    pub takes-input : (reply : Reply) → Replies after accepts old.receiver out channel other reply new.receiver out' → RepliesOfWhole accepts after old out channel input reply new out'
+    takes-input reply replies = record {
+      seen = replies.takes.given_more;
+      was_seen = replies.takes.was_given;
+      selected = same;
+      stands = λ check made handed given was.
+          let one : AnsweredInput = record { input = other; answer = replies.answer } in
+          let stands = replies.takes.stands check made was.others was.also was.stands in
+          let grown = takes-real old.selected check made accepts old.receiver was.others handed was.also given was.stands was.whole channel replies.exists input other may
+          new.receiver replies.takes.given_more replies.answer bytes stands in
+          let real : AnsweredInput = record { input = input; answer = grown.its.real } in
+          let told = told-of_whole (is_selected old.selected) was.others handed was.whole.stand_ins made channel one real grown.its.in_place grown.its.headed reply replies.says
+          (replies.told check made was.others was.also was.stands) in (
+            grown.its.real,
+            told.0,
+            told.1,
+            grown.more,
+            stands-new check made (was.others ++ came channel one ∷ []) (was.also ++ replies.takes.given_more) (handed ++ came channel real ∷ []) (given ++ grown.more) stands
+                grown.whole_then,
+            grown.seen,
+          );
+    }
+
+    -- one that wasn't taken, or not to the end
+    pub some-failed : (error : TakeError) → Fails after accepts old.receiver out channel other error new.receiver out' → TakesSomeOfWhole accepts after old out new out'
+    some-failed (take_error.NoChannel back) fails = takes-nothing (nothing-taken fails.2 fails.3)
+    some-failed (take_error.NotTaken back why) fails = takes-nothing fails.3
+    some-failed (take_error.Unfinished flow) fails = record {
+      seen = fails.takes.given_more;
+      was_seen = fails.takes.was_given;
+      selected = same;
+      stands = λ check made handed given was.
+          let answer : Answer = Ok (Some fails.admitted) in
+          let one : AnsweredInput = record { input = other; answer = answer } in
+          let stands = fails.takes.stands check made was.others was.also was.stands in
+          let grown = takes-real old.selected check made accepts old.receiver was.others handed was.also given was.stands was.whole channel fails.exists input other may
+          new.receiver fails.takes.given_more answer bytes stands in
+          let real : AnsweredInput = record { input = input; answer = grown.its.real } in (
+            came channel real ∷ [],
+            grown.more,
+            stands-new check made (was.others ++ came channel one ∷ []) (was.also ++ fails.takes.given_more) (handed ++ came channel real ∷ []) (given ++ grown.more) stands
+                grown.whole_then,
+            grown.seen,
+          );
+    }
+
+  -- it stands for something still
+  pub receiving-then : TakesSomeOfWhole accepts after old out new out' → IsReceivingWhole accepts old → IsReceivingWhole accepts new
+  receiving-then takes was =
+      let stands = takes.stands was.check was.made was.handed was.given was.stands in
+      record { check = was.check; made = was.made; handed = was.handed ++ stands.0; given = was.given ++ stands.1; stands = stands.2 }
+
+-- the close
+pub closes-whole : {C O : Type 0} (accepts : C → List ℕ → Bool) (after : O → List Given → O → Type 0) (old : SelectedReceiver C) (out out' : O) (closed : Closed)
+    → Closes after accepts old.receiver out closed out' → ClosesOfWhole accepts after old out closed out'
+closes-whole accepts after old out out' closed closes = record {
+  seen = closes.given_more;
+  was_seen = closes.was_given;
+  received = λ check made handed given was.
+      whole-closed old.selected check made was.others was.also handed given was.whole closes.given_more closed (closes.received check made was.others was.also was.stands);
+}
