@@ -3,7 +3,7 @@ use Rattle.std.proofs.Common.{◌≡◌, ℕ, ◌+◌, ◌-◌, ◌^◌, min, Ok
 use Rattle.std.specs.Prelude.{IfSome, OnOk, Result}
 use Rattle.std.specs.Io.KnownBytes.{Appends, Consumes, IsAtEnd}
 use Rattle.std.proofs.KnownBytes.{Appends-trans, Consumes-nil, Consumes-trans, Consumes-all}
-use Rattle.receiver.specs.Received.{Closes}
+use Rattle.selected_receiver.specs.Taking.{ClosesOfWhole}
 use Rattle.receiver.specs.declared.closing.Closed.{Closed}
 use Rattle.capture.specs.PcapngBlocks.{CaptureParts}
 use Rattle.capture.specs.Captures.{IsWholeCapture, TakesCapture}
@@ -165,7 +165,7 @@ module _ (settings : CaptureSettings) (capture_map : CaptureMap) where
       → TakesBy inner_accepts HasSeen (SpellsNext old.flows burst told new.flows) old.flows.receiver old.timed new.flows.receiver mid
       → PutsCame mid old.file new.timed new.file → new.flows.map ≡ old.flows.map → new.flows.waits ≡ old.flows.waits
       → Tells (told_if burst.burst_id (fate_of_taken told)) comparing.reasons reasons
-      → Takes (arrivals_of_steps old.file.selected mid.waiting.items) comparing comparing'
+      → Takes (arrivals_of_steps new.flows.receiver.selected mid.waiting.items) comparing comparing'
       → ExplainsAfter (told_in_steps mid.waiting.items) comparing'.comparison reasons comparing'.reasons
       → HasTakenBeside settings capture_map (records ++ one ∷ []) (bursts ++ burst ∷ []) written new comparing'
   taken-beside records one bursts burst told written old new mid comparing comparing' reasons holds has takes puts map_kept waits_kept tells takes_all explains =
@@ -173,8 +173,8 @@ module _ (settings : CaptureSettings) (capture_map : CaptureMap) where
       record {
         taken = taken;
         compares =
-            burst-more records one bursts burst (answers_in has.taken.comes.spelled) (answers_in taken.comes.spelled) told has.taken.filed.came mid.waiting.items taken.filed.came old.file.selected
-            comparing comparing' reasons holds has.taken.filed.selected (taken-came settings capture_map bursts burst told written old new mid has.taken takes puts map_kept waits_kept)
+            burst-more records one bursts burst (answers_in has.taken.comes.spelled) (answers_in taken.comes.spelled) told has.taken.filed.came mid.waiting.items taken.filed.came new.flows.receiver.selected
+            comparing comparing' reasons holds taken.selected_are (taken-came settings capture_map bursts burst told written old new mid has.taken takes puts map_kept waits_kept)
             (taken-answers settings capture_map bursts burst told written old new mid has.taken takes puts map_kept waits_kept) has.compares tells takes_all explains
             (taken-timed bursts written old has.taken) (taken-timed (bursts ++ burst ∷ []) written new taken);
       }
@@ -183,7 +183,7 @@ module _ (settings : CaptureSettings) (capture_map : CaptureMap) where
   pub end-beside : (records : List CaptureParts) (bursts : List CapturedBurst) (written : List ℕ) (old new : Joining) (mid : TimedFrames) (comparing comparing' : Comparing)
       → HasTakenBeside settings capture_map records bursts written old comparing
       → TakesBy inner_accepts HasSeen (EndsWaitingOfAll old.flows new.flows) old.flows.receiver old.timed new.flows.receiver mid
-      → PutsCame mid old.file new.timed new.file → Takes (arrivals_of_steps old.file.selected mid.waiting.items) comparing comparing'
+      → PutsCame mid old.file new.timed new.file → Takes (arrivals_of_steps new.flows.receiver.selected mid.waiting.items) comparing comparing'
       → ExplainsAfter (told_in_steps mid.waiting.items) comparing'.comparison comparing.reasons comparing'.reasons
       → HasEndedBeside settings capture_map records bursts written new comparing'
   end-beside records bursts written old new mid comparing comparing' has takes puts takes_all explains =
@@ -191,8 +191,8 @@ module _ (settings : CaptureSettings) (capture_map : CaptureMap) where
       record {
         ended = ended;
         compares =
-            steps-more records bursts (answers_in has.taken.comes.spelled) (answers_in ended.comes.came.spelled) has.taken.filed.came mid.waiting.items ended.filed.came old.file.selected
-            comparing comparing' has.taken.filed.selected (end-came settings capture_map bursts written old new mid has.taken takes puts)
+            steps-more records bursts (answers_in has.taken.comes.spelled) (answers_in ended.comes.came.spelled) has.taken.filed.came mid.waiting.items ended.filed.came new.flows.receiver.selected
+            comparing comparing' ended.selected_are (end-came settings capture_map bursts written old new mid has.taken takes puts)
             (end-answers settings capture_map bursts written old new mid has.taken takes puts) has.compares takes_all explains
             (waiting_ended ended.handed ended.steps new.timed.lasts.items ended.comes ended.filed.is_timed);
       }
@@ -200,8 +200,8 @@ module _ (settings : CaptureSettings) (capture_map : CaptureMap) where
   -- **The receiver was closed.**
   pub closed-beside : (records : List CaptureParts) (bursts : List CapturedBurst) (written : List ℕ) (old : Joining) (mid timed' : TimedFrames) (file' : FrameFile) (closed : Closed) (comparing comparing' : Comparing)
       → HasEndedBeside settings capture_map records bursts written old comparing
-      → Closes HasGiven inner_accepts old.flows.receiver old.timed closed mid → PutsCame mid old.file timed' file'
-      → Takes (arrivals_of_steps old.file.selected mid.waiting.items) comparing comparing'
+      → ClosesOfWhole inner_accepts HasGiven old.flows.receiver old.timed closed mid → PutsCame mid old.file timed' file'
+      → Takes (arrivals_of_steps old.flows.receiver.selected mid.waiting.items) comparing comparing'
       → ExplainsAfter (told_in_steps mid.waiting.items) comparing'.comparison comparing.reasons comparing'.reasons
       → AreAllBeside settings capture_map records bursts (written ++ file'.bytes.items) comparing'
   closed-beside records bursts written old mid timed' file' closed comparing comparing' has closes puts takes_all explains =
@@ -209,8 +209,8 @@ module _ (settings : CaptureSettings) (capture_map : CaptureMap) where
       record {
         all = all;
         compares =
-            steps-more records bursts (answers_in has.ended.comes.came.spelled) (answers_in all.comes.came.spelled) has.ended.filed.came mid.waiting.items all.file.timed old.file.selected
-            comparing comparing' has.ended.filed.selected (closed-came settings capture_map bursts written old mid timed' file' closed has.ended closes puts)
+            steps-more records bursts (answers_in has.ended.comes.came.spelled) (answers_in all.comes.came.spelled) has.ended.filed.came mid.waiting.items all.file.timed old.flows.receiver.selected
+            comparing comparing' has.ended.selected_are (closed-came settings capture_map bursts written old mid timed' file' closed has.ended closes puts)
             (closed-answers settings capture_map bursts written old mid timed' file' closed has.ended closes puts) has.compares takes_all explains
             (receiver_closed all.handed all.steps all.rest all.closed all.file.lasts all.comes all.received all.file.is_timed);
       }
@@ -232,7 +232,7 @@ module _ (settings : CaptureSettings) (capture_map : CaptureMap) where
 
   -- a record that is passed over
   pub passed-beside : (records : List CaptureParts) (written : List ℕ) (one : CaptureParts) (why : PassedReason) (old : Joining) (n : ℕ) (comparing comparing' : Comparing)
-      → HasJoinedBeside settings capture_map records written old comparing → TakesBrought old.file.selected old.flows.map one comparing comparing'
+      → HasJoinedBeside settings capture_map records written old comparing → TakesBrought old.flows.receiver.selected old.flows.map one comparing comparing'
       → Explains comparing'.comparison comparing.reasons comparing'.reasons → IsBurstOf one (Err why) → n ≡ min (old.records + 1) (2 ^ 64 - 1)
       → HasJoinedBeside settings capture_map (records ++ one ∷ []) written (record old { records = n }) comparing'
   passed-beside records written one why old n comparing comparing' has brings explains is count =
@@ -245,13 +245,13 @@ module _ (settings : CaptureSettings) (capture_map : CaptureMap) where
           count = count ∙ counted-more settings capture_map old.records records one has.joined.count;
         };
         compares =
-            record-more records has.joined.bursts (answers_in taken.comes.spelled) taken.filed.came one old.file.selected old.flows.map comparing comparing' taken.filed.selected taken.map_is
+            record-more records has.joined.bursts (answers_in taken.comes.spelled) taken.filed.came one old.flows.receiver.selected old.flows.map comparing comparing' taken.selected_are taken.map_is
             has.compares brings explains (taken-timed has.joined.bursts written old taken);
       }
 
   -- one that is a burst
   pub burst-beside : (records : List CaptureParts) (written : List ℕ) (one : CaptureParts) (burst : CapturedBurst) (old new : Joining) (n : ℕ) (comparing comparing' comparing'' : Comparing)
-      → HasJoinedBeside settings capture_map records written old comparing → TakesBrought old.file.selected old.flows.map one comparing comparing'
+      → HasJoinedBeside settings capture_map records written old comparing → TakesBrought old.flows.receiver.selected old.flows.map one comparing comparing'
       → Explains comparing'.comparison comparing.reasons comparing'.reasons → IsBurstOf one (Ok burst) → n ≡ min (old.records + 1) (2 ^ 64 - 1) → new.records ≡ n
       → TakesBurstBeside (record old { records = n }) comparing' burst new comparing''
       → HasJoinedBeside settings capture_map (records ++ one ∷ []) written new comparing''
@@ -260,7 +260,7 @@ module _ (settings : CaptureSettings) (capture_map : CaptureMap) where
       let after = takes settings capture_map records one has.joined.bursts written is (record {
         taken = counted_on has.joined.bursts written old n taken;
         compares =
-            record-more records has.joined.bursts (answers_in taken.comes.spelled) taken.filed.came one old.file.selected old.flows.map comparing comparing' taken.filed.selected taken.map_is
+            record-more records has.joined.bursts (answers_in taken.comes.spelled) taken.filed.came one old.flows.receiver.selected old.flows.map comparing comparing' taken.selected_are taken.map_is
             has.compares brings explains (taken-timed has.joined.bursts written old taken);
       }) in
       record {
@@ -277,38 +277,40 @@ module _ (settings : CaptureSettings) (capture_map : CaptureMap) where
 
   module _ (file' : FrameFile) where
     abbrev now_written : (bursts : List CapturedBurst) (written : List ℕ) (old : Joining) (has : HasTaken settings capture_map bursts written old) → file'.link ≡ old.file.link → file'.channels ≡ old.file.channels
-        → file'.selected ≡ old.file.selected → file'.bytes.items ≡ [] → HasTaken settings capture_map bursts (written ++ old.file.bytes.items) (record old { file = file' })
-    now_written bursts written old has link channels selected none = record {
+        → file'.bytes.items ≡ [] → HasTaken settings capture_map bursts (written ++ old.file.bytes.items) (record old { file = file' })
+    now_written bursts written old has link channels none = record {
       handed = has.handed;
       steps = has.steps;
       comes = has.comes;
       stands = has.stands;
       map_is = has.map_is;
       waits_are = has.waits_are;
-      filed = filed-written settings capture_map has.steps written old.timed old.file file' has.filed link channels selected none;
+      selected_are = has.selected_are;
+      filed = filed-written settings capture_map has.steps written old.timed old.file file' has.filed link channels none;
     }
 
     pub ended-written-beside : (records : List CaptureParts) (bursts : List CapturedBurst) (written : List ℕ) (old : Joining) (comparing : Comparing)
         → HasEndedBeside settings capture_map records bursts written old comparing → file'.link ≡ old.file.link → file'.channels ≡ old.file.channels
-        → file'.selected ≡ old.file.selected → file'.bytes.items ≡ []
+        → file'.bytes.items ≡ []
         → HasEndedBeside settings capture_map records bursts (written ++ old.file.bytes.items) (record old { file = file' }) comparing
     unfolding filed-written
-    ended-written-beside records bursts written old comparing has link channels selected none = record {
+    ended-written-beside records bursts written old comparing has link channels none = record {
       ended = record {
         handed = has.ended.handed;
         steps = has.ended.steps;
         comes = has.ended.comes;
         stands = has.ended.stands;
-        filed = filed-written settings capture_map has.ended.steps written old.timed old.file file' has.ended.filed link channels selected none;
+        selected_are = has.ended.selected_are;
+        filed = filed-written settings capture_map has.ended.steps written old.timed old.file file' has.ended.filed link channels none;
       };
       compares = has.compares;
     }
 
     pub bytes-written-beside : (bytes written : List ℕ) (old : FrameReading) (comparing : Comparing) → HasReadBeside settings capture_map bytes written old comparing
-        → file'.link ≡ old.joining.file.link → file'.channels ≡ old.joining.file.channels → file'.selected ≡ old.joining.file.selected → file'.bytes.items ≡ []
+        → file'.link ≡ old.joining.file.link → file'.channels ≡ old.joining.file.channels → file'.bytes.items ≡ []
         → HasReadBeside settings capture_map bytes (written ++ old.joining.file.bytes.items) (record old { joining = record old.joining { file = file' } }) comparing
     unfolding filed-written
-    bytes-written-beside bytes written old comparing has link channels selected none =
+    bytes-written-beside bytes written old comparing has link channels none =
         let joined = has.read.joined in
         record {
           read = record {
@@ -317,7 +319,7 @@ module _ (settings : CaptureSettings) (capture_map : CaptureMap) where
             joined = record {
               bursts = joined.bursts;
               are = joined.are;
-              taken_in = now_written joined.bursts written old.joining joined.taken_in link channels selected none;
+              taken_in = now_written joined.bursts written old.joining joined.taken_in link channels none;
               count = joined.count;
             };
           };
@@ -420,13 +422,13 @@ module _ {R W : Type 0} (remaining : R → Option (List ℕ)) (contents : W → 
 
   module _ (reader : Device R) (writer : Device W) where
     -- nothing was read, and the header was written
-    pub beside-begun : (writer' : Device W) (old : FrameReading) (file' : FrameFile) (comparing : Comparing) → HasReadBeside settings capture_map [] [] old comparing → file'.link ≡ old.joining.file.link → file'.channels ≡ old.joining.file.channels → file'.selected ≡ old.joining.file.selected → file'.bytes.items ≡ []
+    pub beside-begun : (writer' : Device W) (old : FrameReading) (file' : FrameFile) (comparing : Comparing) → HasReadBeside settings capture_map [] [] old comparing → file'.link ≡ old.joining.file.link → file'.channels ≡ old.joining.file.channels → file'.bytes.items ≡ []
         → Appends (contents (inner_of writer)) (contents (inner_of writer')) old.joining.file.bytes.items
         → ComparesSoFar reader reader writer writer' (record old { joining = record old.joining { file = file' } }) comparing
-    beside-begun writer' old file' comparing has link channels selected none wrote = record {
+    beside-begun writer' old file' comparing has link channels none wrote = record {
       bytes = [];
       text = old.joining.file.bytes.items;
-      has = bytes-written-beside settings capture_map file' [] [] old comparing has link channels selected none;
+      has = bytes-written-beside settings capture_map file' [] [] old comparing has link channels none;
       read = Consumes-nil (remaining (inner_of reader));
       wrote = wrote;
     }

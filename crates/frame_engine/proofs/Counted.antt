@@ -7,7 +7,9 @@ use Rattle.flow_core.specs.declared.counts.FlowCounts.{FlowCounts}
 use Rattle.consumer.specs.declared.given.Given.{Given}
 use Rattle.bonded_flows.specs.Table.{TableSetup}
 use Rattle.receiver.specs.HandedIn.{HandedIn}
-use Rattle.receiver.specs.Receiving.{StandsFor, IsSettledAt, HasGivenSince}
+use Rattle.receiver.specs.Receiving.{IsSettledAt, HasGivenSince}
+use Rattle.flow_selection.specs.Selection.{is_selected}
+use Rattle.selected_receiver.specs.Whole.{StandsForWhole}
 use Rattle.capture_summary.specs.Counting.{both_counts}
 use Rattle.capture_summary.specs.declared.flow_summary.FlowSummary.{FlowSummary}
 use Rattle.frame_engine.specs.Settings.{inner_accepts}
@@ -16,10 +18,10 @@ use Rattle.frame_engine.specs.Progress.{with_since, IsCountedSince, AreCounted, 
 
 module _ (reading : FrameReading) where
   -- what a receiver says of a flow is what was counted of it
-  pub is-since : (flow : ℕ) (since : Option FlowCounts) → (since ≡ None ↔ (length reading.joining.flows.receiver.flows.slots.items ≤ flow))
+  pub is-since : (flow : ℕ) (since : Option FlowCounts) → (since ≡ None ↔ (length reading.joining.flows.receiver.receiver.flows.slots.items ≤ flow))
       → IfSome since (λ counts. (check : List ℕ → Bool) (made : TableSetup) (handed : List HandedIn) (given : List Given) (flow_record : FlowRecord)
-      → StandsFor inner_accepts reading.joining.flows.receiver check made handed given → slice_get made.records flow ≡ Some flow_record
-      → IsSettledAt reading.joining.flows.receiver flow → HasGivenSince check made flow flow_record handed given counts)
+      → StandsForWhole inner_accepts reading.joining.flows.receiver check made handed given → slice_get made.records flow ≡ Some flow_record
+      → IsSettledAt reading.joining.flows.receiver.receiver flow → is_selected reading.joining.flows.receiver.selected flow ≡ true → HasGivenSince check made flow flow_record handed given counts)
       → IsCountedSince reading flow since
   is-since flow None none some = none.0 refl
   is-since flow (Some since) none some = some

@@ -50,13 +50,13 @@ module _ {R W : Type 0} (remaining : R → Option (List ℕ)) (contents : W → 
     -- nothing was read, and the header was written
     pub far-begun : (writer' : Device W) (old new : FrameReading) → HasReadBytes settings capture_map [] [] old
         → new ≡ record old { joining = record old.joining { file = new.joining.file } } → new.joining.file.link ≡ old.joining.file.link
-        → new.joining.file.channels ≡ old.joining.file.channels → new.joining.file.selected ≡ old.joining.file.selected → new.joining.file.bytes.items ≡ []
+        → new.joining.file.channels ≡ old.joining.file.channels → new.joining.file.bytes.items ≡ []
         → Appends (contents (inner_of writer)) (contents (inner_of writer')) old.joining.file.bytes.items → IsLeftFlushed writer writer'
         → has_failed writer' ≡ has_failed writer → JoinsSoFar reader reader writer writer' new
-    far-begun writer' old new has is link channels selected none wrote flushed sound = record {
+    far-begun writer' old new has is link channels none wrote flushed sound = record {
       bytes = [];
       text = old.joining.file.bytes.items;
-      has = bytes-written settings capture_map [] [] old new has is link channels selected none;
+      has = bytes-written settings capture_map [] [] old new has is link channels none;
       empty = none;
       read = Consumes-nil (remaining (inner_of reader));
       wrote = wrote;

@@ -5,6 +5,7 @@ use Rattle.std.proofs.lemmas.List.Elements.{filter-append}
 use Rattle.capture.specs.Pcap.{header_bytes}
 use Rattle.capture_map.specs.declared.map.CaptureMap.{CaptureMap}
 use Rattle.capture_map.specs.declared.map.MapChannel.{MapChannel}
+use Rattle.captured_flows.specs.Shown.{is_seen}
 use Rattle.captured_flows.specs.Steps.{CaptureStep}
 use Rattle.flow_selection.specs.declared.selection.Selection.{Selection}
 use Rattle.flow_selection.specs.declared.selection.Selection.TheVariants.{All}
@@ -21,15 +22,8 @@ use Rattle.timed_frames.specs.Timing.{timed_then}
 use Rattle.frame_engine.specs.declared.settings.CaptureSettings.{CaptureSettings}
 use Rattle.frame_engine.specs.declared.frame_file.FrameFile.{FrameFile}
 use Rattle.frame_engine.specs.Written.{flow_of_frame, written_of, written_in, steps_left, left_in}
-use Rattle.frame_engine.specs.Joined.{of_all_flows, none_handed_in, whole_file, file_of, IsFileOf}
+use Rattle.frame_engine.specs.Joined.{of_all_flows, none_handed_in, whole_file, file_of, seen_of, IsFileOf}
 use Rattle.frame_engine.specs.Inside.Joins.{PutsCame, HasFiled}
-
--- what is left of what came, and of more
-pub left-more : (selected : Selection) (link : FrameLink) (channels : List MapChannel) (came more : List TimedStep)
-    → left_in selected link channels (came ++ more) ≡ left_in selected link channels came ++ left_in selected link channels more
-left-more selected link channels came more =
-    ap (written_in link channels) (filter-append (λ step. is_left selected (flow_of_frame step)) came more)
-    ∙ flat_map-append (written_of link channels) (steps_left selected came) (steps_left selected more)
 
 -- all is left where all flows are selected
 left-all : (timed : List TimedStep) → steps_left All timed ≡ timed
@@ -47,53 +41,57 @@ file-all settings capture_map timed =
 
 module _ (settings : CaptureSettings) (capture_map : CaptureMap) where
   abbrev written_for : List TimedStep → List ℕ
-  written_for timed = left_in settings.selected settings.link capture_map.channels.items timed
+  written_for timed = written_in settings.link capture_map.channels.items timed
 
   -- the file of what came, and of more
-  pub file-more : (came more : List TimedStep) → file_of settings capture_map (came ++ more) ≡ file_of settings capture_map came ++ written_for more
+  pub file-more : (came more : List TimedStep) → whole_file settings capture_map (came ++ more) ≡ whole_file settings capture_map came ++ written_for more
   file-more came more =
-      ap (λ (text : List ℕ). header_bytes (file_header settings.link) ++ text) (left-more settings.selected settings.link capture_map.channels.items came more)
+      ap (λ (text : List ℕ). header_bytes (file_header settings.link) ++ text) (flat_map-append (written_of settings.link capture_map.channels.items) came more)
       ∙ sym (append_assoc (header_bytes (file_header settings.link)) (written_for came) (written_for more))
 
-  -- what waited of a file's selection, link and channels
-  pub written-as : (selected : Selection) (link : FrameLink) (channels : List MapChannel) (waiting came : List TimedStep) → selected ≡ settings.selected → link ≡ settings.link
-      → channels ≡ capture_map.channels.items → waiting ≡ came → left_in selected link channels waiting ≡ written_for came
-  written-as selected link channels waiting came s l c w =
-      ap (λ (selected : Selection). left_in selected link channels waiting) s ∙ ap (λ (link : FrameLink). left_in settings.selected link channels waiting) l
-      ∙ ap (λ (channels : List MapChannel). left_in settings.selected settings.link channels waiting) c
-      ∙ ap (λ (waiting : List TimedStep). left_in settings.selected settings.link capture_map.channels.items waiting) w
+  -- what waited of a file's link and channels
+  pub written-as : (link : FrameLink) (channels : List MapChannel) (waiting came : List TimedStep) → link ≡ settings.link
+      → channels ≡ capture_map.channels.items → waiting ≡ came → written_in link channels waiting ≡ written_for came
+  written-as link channels waiting came l c w =
+      ap (λ (link : FrameLink). written_in link channels waiting) l
+      ∙ ap (λ (channels : List MapChannel). written_in settings.link channels waiting) c
+      ∙ ap (λ (waiting : List TimedStep). written_in settings.link capture_map.channels.items waiting) w
 
   -- **More steps were seen, and what came of them was put.**
-  unfoldable pub filed-more : (steps more : List CaptureStep) (written : List ℕ) (timed mid timed' : TimedFrames) (file file' : FrameFile)
-      → HasFiled settings capture_map steps written timed file → HasSeen timed more mid → PutsCame mid file timed' file' → HasFiled settings capture_map (steps ++ more) written timed' file'
-  filed-more steps more written timed mid timed' file file' filed saw puts =
-      let seen = saw puts.was_whole in
-      let later = seen.1.came in
-      let waited : mid.waiting.items ≡ later = seen.1.waiting ∙ ap (λ (w : List TimedStep). w ++ later) filed.none_waits in
+  unfoldable pub filed-more : (steps more seen : List CaptureStep) (written : List ℕ) (timed mid timed' : TimedFrames) (file file' : FrameFile)
+      → HasFiled settings capture_map steps written timed file → HasSeen timed seen mid → seen ≡ seen_of settings capture_map more → PutsCame mid file timed' file'
+      → HasFiled settings capture_map (steps ++ more) written timed' file'
+  filed-more steps more seen written timed mid timed' file file' filed saw is puts =
+      let shown = saw puts.was_whole in
+      let later = shown.1.came in
+      let waited : mid.waiting.items ≡ later = shown.1.waiting ∙ ap (λ (w : List TimedStep). w ++ later) filed.none_waits in
+      let all : seen_of settings capture_map (steps ++ more) ≡ seen_of settings capture_map steps ++ seen =
+      filter-append (is_seen settings.selected) steps more ∙ ap (λ (s : List CaptureStep). seen_of settings capture_map steps ++ s) (sym is) in
       record {
         came = filed.came ++ later;
         is_timed =
-            subst (λ (lasts : List (Option LastBurst)). Timed (none_handed_in settings capture_map) (steps ++ more) (filed.came ++ later) lasts) (sym (ap (λ lasts. lasts.items) puts.lasts))
-            (timed_then (none_handed_in settings capture_map) timed.lasts.items steps filed.came filed.is_timed seen.1.timed);
+            subst (λ (s : List CaptureStep). Timed (none_handed_in settings capture_map) s (filed.came ++ later) timed'.lasts.items) (sym all)
+            (subst (λ (lasts : List (Option LastBurst)). Timed (none_handed_in settings capture_map) (seen_of settings capture_map steps ++ seen) (filed.came ++ later) lasts)
+            (sym (ap (λ lasts. lasts.items) puts.lasts))
+            (timed_then (none_handed_in settings capture_map) timed.lasts.items (seen_of settings capture_map steps) filed.came filed.is_timed shown.1.timed));
         whole = subst IsTrue (sym puts.whole) puts.was_whole;
         none_waits = puts.none_waits;
         link = puts.link ∙ filed.link;
         channels = ap (λ channels. channels.items) puts.channels ∙ filed.channels;
-        selected = puts.selected ∙ filed.selected;
         text =
             file-more filed.came later ∙ ap (λ (text : List ℕ). text ++ written_for later) filed.text ∙ append_assoc written file.bytes.items (written_for later)
-            ∙ ap (λ (bytes : List ℕ). written ++ (file.bytes.items ++ bytes)) (sym (written-as file.selected file.link file.channels.items mid.waiting.items later filed.selected filed.link filed.channels waited))
+            ∙ ap (λ (bytes : List ℕ). written ++ (file.bytes.items ++ bytes)) (sym (written-as file.link file.channels.items mid.waiting.items later filed.link filed.channels waited))
             ∙ ap (λ (bytes : List ℕ). written ++ bytes) (sym puts.bytes);
       }
 
   -- what came then is what came before and what waited
-  pub filed-came : (steps more : List CaptureStep) (written : List ℕ) (timed mid timed' : TimedFrames) (file file' : FrameFile)
-      (filed : HasFiled settings capture_map steps written timed file) (saw : HasSeen timed more mid) (puts : PutsCame mid file timed' file')
-      → (filed-more steps more written timed mid timed' file file' filed saw puts).came ≡ filed.came ++ mid.waiting.items
+  pub filed-came : (steps more seen : List CaptureStep) (written : List ℕ) (timed mid timed' : TimedFrames) (file file' : FrameFile)
+      (filed : HasFiled settings capture_map steps written timed file) (saw : HasSeen timed seen mid) (is : seen ≡ seen_of settings capture_map more) (puts : PutsCame mid file timed' file')
+      → (filed-more steps more seen written timed mid timed' file file' filed saw is puts).came ≡ filed.came ++ mid.waiting.items
   unfolding filed-more
-  filed-came steps more written timed mid timed' file file' filed saw puts =
-      let seen = saw puts.was_whole in
-      ap (λ (later : List TimedStep). filed.came ++ later) (sym (seen.1.waiting ∙ ap (λ (w : List TimedStep). w ++ seen.1.came) filed.none_waits))
+  filed-came steps more seen written timed mid timed' file file' filed saw is puts =
+      let shown = saw puts.was_whole in
+      ap (λ (later : List TimedStep). filed.came ++ later) (sym (shown.1.waiting ∙ ap (λ (w : List TimedStep). w ++ shown.1.came) filed.none_waits))
 
   -- what is in the file is that of the steps
   unfoldable pub filed-file : (steps : List CaptureStep) (written : List ℕ) (timed : TimedFrames) (file : FrameFile) → HasFiled settings capture_map steps written timed file
@@ -103,16 +101,15 @@ module _ (settings : CaptureSettings) (capture_map : CaptureMap) where
 
   -- it was written
   unfoldable pub filed-written : (steps : List CaptureStep) (written : List ℕ) (timed : TimedFrames) (file file' : FrameFile) → HasFiled settings capture_map steps written timed file
-      → file'.link ≡ file.link → file'.channels ≡ file.channels → file'.selected ≡ file.selected → file'.bytes.items ≡ []
+      → file'.link ≡ file.link → file'.channels ≡ file.channels → file'.bytes.items ≡ []
       → HasFiled settings capture_map steps (written ++ file.bytes.items) timed file'
-  filed-written steps written timed file file' filed link channels selected none = record {
+  filed-written steps written timed file file' filed link channels none = record {
     came = filed.came;
     is_timed = filed.is_timed;
     whole = filed.whole;
     none_waits = filed.none_waits;
     link = link ∙ filed.link;
     channels = ap (λ channels. channels.items) channels ∙ filed.channels;
-    selected = selected ∙ filed.selected;
     text =
         filed.text ∙ sym (append-nil (written ++ file.bytes.items))
         ∙ ap (λ (bytes : List ℕ). (written ++ file.bytes.items) ++ bytes) (sym none);

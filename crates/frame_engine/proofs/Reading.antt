@@ -80,9 +80,9 @@ module _ (settings : CaptureSettings) (capture_map : CaptureMap) where
 
   -- where it was written
   pub joined-written : (records : List CaptureParts) (written : List ℕ) (old new : Joining) → HasJoined settings capture_map records written old
-      → new ≡ record old { file = new.file } → new.file.link ≡ old.file.link → new.file.channels ≡ old.file.channels → new.file.selected ≡ old.file.selected → new.file.bytes.items ≡ []
+      → new ≡ record old { file = new.file } → new.file.link ≡ old.file.link → new.file.channels ≡ old.file.channels → new.file.bytes.items ≡ []
       → HasJoined settings capture_map records (written ++ old.file.bytes.items) new
-  joined-written records written old new has is link channels selected none =
+  joined-written records written old new has is link channels none =
       subst (λ (joining : Joining). HasJoined settings capture_map records (written ++ old.file.bytes.items) joining) (sym is) (record {
         bursts = has.bursts;
         are = has.are;
@@ -93,7 +93,8 @@ module _ (settings : CaptureSettings) (capture_map : CaptureMap) where
           stands = has.taken_in.stands;
           map_is = has.taken_in.map_is;
           waits_are = has.taken_in.waits_are;
-          filed = filed-written settings capture_map has.taken_in.steps written old.timed old.file new.file has.taken_in.filed link channels selected none;
+          selected_are = has.taken_in.selected_are;
+          filed = filed-written settings capture_map has.taken_in.steps written old.timed old.file new.file has.taken_in.filed link channels none;
         };
         count = has.count;
       })
@@ -194,26 +195,26 @@ module _ {W : Type 0} (contents : W → Option (List ℕ)) (settings : CaptureSe
   pub piece-written : (old mid new : FrameReading) (piece : List ℕ) (taken : Result (Unit {0}) EngineFault) (bytes written : List ℕ) (writer writer' : Device W)
       → OnOk taken (JoinsPiece old piece mid) → IfErr taken (CannotJoin old piece mid) → HasReadBytes settings capture_map bytes written old
       → new ≡ record mid { joining = record mid.joining { file = new.joining.file } } → new.joining.file.link ≡ mid.joining.file.link
-      → new.joining.file.channels ≡ mid.joining.file.channels → new.joining.file.selected ≡ mid.joining.file.selected → new.joining.file.bytes.items ≡ []
+      → new.joining.file.channels ≡ mid.joining.file.channels → new.joining.file.bytes.items ≡ []
       → WritesAll contents writer writer' mid.joining.file.bytes.items
       → MatchResult taken
       (λ _. HasReadBytes settings capture_map (bytes ++ piece) (written ++ mid.joining.file.bytes.items) new
       × Appends (contents (inner_of writer)) (contents (inner_of writer')) mid.joining.file.bytes.items × IsLeftFlushed writer writer' × (has_failed writer' ≡ has_failed writer))
       (λ fault. IsFileTill settings capture_map (bytes ++ piece) fault (written ++ mid.joining.file.bytes.items) × IsJoinFaultOr (bytes ++ piece) fault
       × WritesTill contents writer writer' mid.joining.file.bytes.items fault)
-  piece-written old mid new piece (Ok done) bytes written writer writer' joins cannot has is link channels selected none wrote =
+  piece-written old mid new piece (Ok done) bytes written writer writer' joins cannot has is link channels none wrote =
       let after = joins settings capture_map bytes written has in (
         subst (λ (reading : FrameReading). HasReadBytes settings capture_map (bytes ++ piece) (written ++ mid.joining.file.bytes.items) reading) (sym is) (record {
           records = after.records;
           captured = after.captured;
           joined =
-              joined-written settings capture_map after.records written mid.joining (record mid.joining { file = new.joining.file }) after.joined refl link channels selected none;
+              joined-written settings capture_map after.records written mid.joining (record mid.joining { file = new.joining.file }) after.joined refl link channels none;
         }),
         wrote.0,
         wrote.1,
         wrote.2,
       )
-  piece-written old mid new piece (Err fault) bytes written writer writer' joins cannot has is link channels selected none wrote =
+  piece-written old mid new piece (Err fault) bytes written writer writer' joins cannot has is link channels none wrote =
       let till = cannot settings capture_map bytes written has in
       let why = fault_written (bytes ++ piece) mid.joining.file.bytes.items writer writer' fault till.1 wrote in (till.0, why.0, why.1)
 
@@ -221,11 +222,11 @@ module _ (settings : CaptureSettings) (capture_map : CaptureMap) where
   -- what was in the file was written
   pub bytes-written : (bytes written : List ℕ) (old new : FrameReading) → HasReadBytes settings capture_map bytes written old
       → new ≡ record old { joining = record old.joining { file = new.joining.file } } → new.joining.file.link ≡ old.joining.file.link
-      → new.joining.file.channels ≡ old.joining.file.channels → new.joining.file.selected ≡ old.joining.file.selected → new.joining.file.bytes.items ≡ []
+      → new.joining.file.channels ≡ old.joining.file.channels → new.joining.file.bytes.items ≡ []
       → HasReadBytes settings capture_map bytes (written ++ old.joining.file.bytes.items) new
-  bytes-written bytes written old new has is link channels selected none =
+  bytes-written bytes written old new has is link channels none =
       subst (λ (reading : FrameReading). HasReadBytes settings capture_map bytes (written ++ old.joining.file.bytes.items) reading) (sym is) (record {
         records = has.records;
         captured = has.captured;
-        joined = joined-written settings capture_map has.records written old.joining (record old.joining { file = new.joining.file }) has.joined refl link channels selected none;
+        joined = joined-written settings capture_map has.records written old.joining (record old.joining { file = new.joining.file }) has.joined refl link channels none;
       })

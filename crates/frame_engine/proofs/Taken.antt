@@ -1,11 +1,13 @@
 -- A burst more came, or nothing more.
-use Rattle.std.proofs.Common.{◌≡◌, ℕ, ◌+◌, ◌-◌, ◌^◌, min, Ok, Err, List, [], ◌∷◌, ◌++◌, map, length, refl, sym, ap, subst, ◌∙◌, arith, length-append}
+use Rattle.std.specs.Prelude.{if◌then◌else◌}
+use Rattle.std.proofs.Common.{◌≡◌, ℕ, ◌+◌, ◌-◌, ◌^◌, min, Bool, true, false, Ok, Err, List, [], ◌∷◌, ◌++◌, filter, map, length, refl, sym, ap, subst, ◌∙◌, arith, length-append}
 use Rattle.std.proofs.lemmas.List.{length-map}
 use Rattle.consumer.specs.declared.given.Given.{Given}
 use Rattle.captured_flows.specs.Acts.{Act, items_of}
-use Rattle.receiver.specs.Receiving.{StandsFor}
-use Rattle.receiver.specs.Received.{Closes}
-use Rattle.receiver.specs.declared.receiver.Receiver.{Receiver}
+use Rattle.flow_selection.specs.declared.selection.Selection.{Selection}
+use Rattle.selected_receiver.specs.Whole.{StandsForWhole}
+use Rattle.selected_receiver.specs.Taking.{ClosesOfWhole}
+use Rattle.selected_receiver.specs.declared.selected_receiver.SelectedReceiver.{SelectedReceiver}
 use Rattle.receiver.specs.declared.closing.Closed.{Closed}
 use Rattle.capture.specs.PcapngBlocks.{CaptureParts}
 use Rattle.capture_map.specs.declared.map.CaptureMap.{CaptureMap}
@@ -16,6 +18,7 @@ use Rattle.captured_flows.specs.declared.waits.Waits.{Waits}
 use Rattle.captured_flows.specs.Captures.{SpellsBurst, EndsAll, one_more_comes}
 use Rattle.captured_flows.specs.Capturing.{views_in, SpellsNext, EndsWaitingOfAll}
 use Rattle.captured_flows.specs.Seen.{flow_seen}
+use Rattle.captured_flows.specs.Shown.{is_seen, AreSeenOf}
 use Rattle.captured_flows.specs.Steps.{CaptureStep, gave, given_in}
 use Rattle.captured_flows.specs.Taking.{TakesBy}
 use Rattle.captured_flows.proofs.Seen.{given-append, plays-then}
@@ -29,18 +32,38 @@ use Rattle.frame_engine.specs.declared.joining.Joining.{Joining}
 use Rattle.capture_summary.specs.declared.passed.PassedReason.{PassedReason}
 use Rattle.frame_engine.specs.Settings.{inner_accepts}
 use Rattle.frame_engine.specs.Records.{IsBurstOf, passed_over, one_burst, counted}
-use Rattle.frame_engine.specs.Joined.{made, check, ComesOf, IsFileOf, AreFramesAtEnd, AreAllFrames}
+use Rattle.answers.specs.Beside.{is_told_if_given}
+use Rattle.frame_engine.specs.Joined.{made, check, seen_of, ComesOf, IsFileOf, AreFramesAtEnd, AreAllFrames}
 use Rattle.frame_engine.specs.Reasoned.{answers_in}
 use Rattle.frame_engine.specs.Inside.Joins.{PutsCame, HasFiled, HasTaken, HasEnded, HasJoined, TakesBurst}
 use Rattle.frame_engine.proofs.Filed.{filed-more, filed-came, filed-file, filed-written}
 
+-- what is seen of what is given
+gave_seen : (selected : Selection) (given : List Given) → filter (is_seen selected) (map gave given) ≡ map gave (filter (is_told_if_given selected) given)
+gave_seen selected [] = refl
+gave_seen selected (one ∷ more) = by_flag (is_told_if_given selected one) (gave_seen selected more) where
+  by_flag : (b : Bool) → filter (is_seen selected) (map gave more) ≡ map gave (filter (is_told_if_given selected) more)
+      → (if b then gave one ∷ filter (is_seen selected) (map gave more) else filter (is_seen selected) (map gave more))
+      ≡ map gave (if b then one ∷ filter (is_told_if_given selected) more else filter (is_told_if_given selected) more)
+  by_flag true rest = ap (λ (s : List CaptureStep). gave one ∷ s) rest
+  by_flag false rest = rest
+
 module _ (settings : CaptureSettings) (capture_map : CaptureMap) where
+  -- what is seen by the selection of the flows is seen by that of the settings
+  seen-as : (selected : Selection) → selected ≡ settings.selected → (steps seen : List CaptureStep) → AreSeenOf selected steps seen → seen ≡ seen_of settings capture_map steps
+  seen-as selected same steps seen are = are ∙ ap (λ (s : Selection). filter (is_seen s) steps) same
+
+  rest-as : (selected : Selection) → selected ≡ settings.selected → (given seen : List Given) → seen ≡ filter (is_told_if_given selected) given
+      → map gave seen ≡ seen_of settings capture_map (map gave given)
+  rest-as selected same given seen are =
+      ap (map gave) are ∙ sym (gave_seen selected given) ∙ ap (λ (s : Selection). filter (is_seen s) (map gave given)) same
+
   -- a receiver that stands for what was handed in, by what was seen
-  stands_for_both : (receiver : Receiver InnerCheck) (handed : List Act) (steps more : List CaptureStep)
-      → StandsFor inner_accepts receiver (check settings capture_map) (made settings capture_map) (items_of handed) (given_in steps ++ given_in more)
-      → StandsFor inner_accepts receiver (check settings capture_map) (made settings capture_map) (items_of handed) (given_in (steps ++ more))
+  stands_for_both : (receiver : SelectedReceiver InnerCheck) (handed : List Act) (steps more : List CaptureStep)
+      → StandsForWhole inner_accepts receiver (check settings capture_map) (made settings capture_map) (items_of handed) (given_in steps ++ given_in more)
+      → StandsForWhole inner_accepts receiver (check settings capture_map) (made settings capture_map) (items_of handed) (given_in (steps ++ more))
   stands_for_both receiver handed steps more stands =
-      subst (λ (given : List Given). StandsFor inner_accepts receiver (check settings capture_map) (made settings capture_map) (items_of handed) given)
+      subst (λ (given : List Given). StandsForWhole inner_accepts receiver (check settings capture_map) (made settings capture_map) (items_of handed) given)
       (sym (given-append steps more)) stands
 
   -- **A burst more.**
@@ -52,7 +75,7 @@ module _ (settings : CaptureSettings) (capture_map : CaptureMap) where
       let more = takes.stands (check settings capture_map) (made settings capture_map) has.handed (given_in has.steps) has.stands in
       record {
         handed = has.handed ++ more.0;
-        steps = has.steps ++ takes.steps;
+        steps = has.steps ++ more.1;
         comes = record {
           spelled =
               one_more_comes has.comes.spelled
@@ -61,15 +84,16 @@ module _ (settings : CaptureSettings) (capture_map : CaptureMap) where
               has.waits_are
               (subst
               (λ (one : CaptureMap). SpellsBurst one (made settings capture_map) old.flows.waits.wait (views_in old.flows) burst has.handed told more.0 (views_in new.flows))
-              has.map_is more.1));
-          plays = plays-then inner_accepts (check settings capture_map) (made settings capture_map) [] has.handed [] has.steps has.comes.plays more.3;
+              has.map_is more.2));
+          plays = plays-then (check settings capture_map) (made settings capture_map) [] has.handed [] has.steps has.comes.plays more.4;
         };
-        stands = stands_for_both new.flows.receiver (has.handed ++ more.0) has.steps takes.steps more.2;
+        stands = stands_for_both new.flows.receiver (has.handed ++ more.0) has.steps more.1 more.3;
         map_is = map_kept ∙ has.map_is;
         waits_are = waits_kept ∙ has.waits_are;
         filed =
-            filed-more settings capture_map has.steps takes.steps written old.timed mid new.timed old.file new.file has.filed
-            (takes.was_seen old.timed [] (seen_nothing old.timed)) puts;
+            filed-more settings capture_map has.steps more.1 takes.seen written old.timed mid new.timed old.file new.file has.filed
+            (takes.was_seen old.timed [] (seen_nothing old.timed)) (seen-as old.flows.receiver.selected has.selected_are more.1 takes.seen more.5) puts;
+        selected_are = takes.selected ∙ has.selected_are;
       }
 
   -- what came then
@@ -79,8 +103,9 @@ module _ (settings : CaptureSettings) (capture_map : CaptureMap) where
       → (taken-more bursts burst told written old new mid has takes puts map_kept waits_kept).filed.came ≡ has.filed.came ++ mid.waiting.items
   unfolding taken-more
   taken-came bursts burst told written old new mid has takes puts map_kept waits_kept =
-      filed-came settings capture_map has.steps takes.steps written old.timed mid new.timed old.file new.file has.filed
-      (takes.was_seen old.timed [] (seen_nothing old.timed)) puts
+      let more = takes.stands (check settings capture_map) (made settings capture_map) has.handed (given_in has.steps) has.stands in
+      filed-came settings capture_map has.steps more.1 takes.seen written old.timed mid new.timed old.file new.file has.filed
+      (takes.was_seen old.timed [] (seen_nothing old.timed)) (seen-as old.flows.receiver.selected has.selected_are more.1 takes.seen more.5) puts
 
   -- and what was told of each burst
   pub taken-answers : (bursts : List CapturedBurst) (burst : CapturedBurst) (told : BurstTaken) (written : List ℕ) (old new : Joining) (mid : TimedFrames) (has : HasTaken settings capture_map bursts written old)
@@ -98,7 +123,7 @@ module _ (settings : CaptureSettings) (capture_map : CaptureMap) where
       let more = takes.stands (check settings capture_map) (made settings capture_map) has.handed (given_in has.steps) has.stands in
       record {
         handed = has.handed ++ more.0;
-        steps = has.steps ++ takes.steps;
+        steps = has.steps ++ more.1;
         comes = record {
           before = has.handed;
           flows = views_in old.flows;
@@ -110,14 +135,15 @@ module _ (settings : CaptureSettings) (capture_map : CaptureMap) where
               subst (λ (n : ℕ). EndsAll (made settings capture_map) settings.waits.wait (views_in old.flows) has.handed n more.0 (views_in new.flows)) (sym (length-map old.flows.flows.items flow_seen))
               (subst
               (λ (waits : Waits). EndsAll (made settings capture_map) waits.wait (views_in old.flows) has.handed (length old.flows.flows.items) more.0 (views_in new.flows))
-              has.waits_are more.1);
+              has.waits_are more.2);
           handed_is = refl;
-          plays = plays-then inner_accepts (check settings capture_map) (made settings capture_map) [] has.handed [] has.steps has.comes.plays more.3;
+          plays = plays-then (check settings capture_map) (made settings capture_map) [] has.handed [] has.steps has.comes.plays more.4;
         };
-        stands = stands_for_both new.flows.receiver (has.handed ++ more.0) has.steps takes.steps more.2;
+        stands = stands_for_both new.flows.receiver (has.handed ++ more.0) has.steps more.1 more.3;
         filed =
-            filed-more settings capture_map has.steps takes.steps written old.timed mid new.timed old.file new.file has.filed
-            (takes.was_seen old.timed [] (seen_nothing old.timed)) puts;
+            filed-more settings capture_map has.steps more.1 takes.seen written old.timed mid new.timed old.file new.file has.filed
+            (takes.was_seen old.timed [] (seen_nothing old.timed)) (seen-as old.flows.receiver.selected has.selected_are more.1 takes.seen more.5) puts;
+        selected_are = takes.selected ∙ has.selected_are;
       }
 
   pub end-came : (bursts : List CapturedBurst) (written : List ℕ) (old new : Joining) (mid : TimedFrames) (has : HasTaken settings capture_map bursts written old)
@@ -125,8 +151,9 @@ module _ (settings : CaptureSettings) (capture_map : CaptureMap) where
       (puts : PutsCame mid old.file new.timed new.file) → (taken-end bursts written old new mid has takes puts).filed.came ≡ has.filed.came ++ mid.waiting.items
   unfolding taken-end
   end-came bursts written old new mid has takes puts =
-      filed-came settings capture_map has.steps takes.steps written old.timed mid new.timed old.file new.file has.filed
-      (takes.was_seen old.timed [] (seen_nothing old.timed)) puts
+      let more = takes.stands (check settings capture_map) (made settings capture_map) has.handed (given_in has.steps) has.stands in
+      filed-came settings capture_map has.steps more.1 takes.seen written old.timed mid new.timed old.file new.file has.filed
+      (takes.was_seen old.timed [] (seen_nothing old.timed)) (seen-as old.flows.receiver.selected has.selected_are more.1 takes.seen more.5) puts
 
   pub end-answers : (bursts : List CapturedBurst) (written : List ℕ) (old new : Joining) (mid : TimedFrames) (has : HasTaken settings capture_map bursts written old)
       (takes : TakesBy inner_accepts HasSeen (EndsWaitingOfAll old.flows new.flows) old.flows.receiver old.timed new.flows.receiver mid)
@@ -136,30 +163,33 @@ module _ (settings : CaptureSettings) (capture_map : CaptureMap) where
 
   -- **The receiver was closed.**
   pub ended-closed : (bursts : List CapturedBurst) (written : List ℕ) (old : Joining) (mid timed' : TimedFrames) (file' : FrameFile) (closed : Closed) → HasEnded settings capture_map bursts written old
-      → Closes HasGiven inner_accepts old.flows.receiver old.timed closed mid → PutsCame mid old.file timed' file' → AreAllFrames settings capture_map bursts (written ++ file'.bytes.items)
-  ended-closed bursts written old mid timed' file' closed has closes puts = record {
-    handed = has.handed;
-    steps = has.steps;
-    comes = has.comes;
-    rest = closes.given_more;
-    closed = closed;
-    received = closes.received (check settings capture_map) (made settings capture_map) (items_of has.handed) (given_in has.steps) has.stands;
-    file =
-        filed-file settings capture_map (has.steps ++ map gave closes.given_more) written timed' file'
-        (filed-more settings capture_map has.steps (map gave closes.given_more) written old.timed mid timed' old.file file' has.filed
-        (closes.was_given old.timed [] (seen_nothing old.timed)) puts);
-  }
+      → ClosesOfWhole inner_accepts HasGiven old.flows.receiver old.timed closed mid → PutsCame mid old.file timed' file' → AreAllFrames settings capture_map bursts (written ++ file'.bytes.items)
+  ended-closed bursts written old mid timed' file' closed has closes puts =
+      let rest = closes.received (check settings capture_map) (made settings capture_map) (items_of has.handed) (given_in has.steps) has.stands in
+      record {
+        handed = has.handed;
+        steps = has.steps;
+        comes = has.comes;
+        rest = rest.0;
+        closed = rest.1;
+        received = rest.2;
+        file =
+            filed-file settings capture_map (has.steps ++ map gave rest.0) written timed' file'
+            (filed-more settings capture_map has.steps (map gave rest.0) (map gave closes.seen) written old.timed mid timed' old.file file' has.filed
+            (closes.was_seen old.timed [] (seen_nothing old.timed)) (rest-as old.flows.receiver.selected has.selected_are rest.0 closes.seen rest.3) puts);
+      }
 
   pub closed-came : (bursts : List CapturedBurst) (written : List ℕ) (old : Joining) (mid timed' : TimedFrames) (file' : FrameFile) (closed : Closed) (has : HasEnded settings capture_map bursts written old)
-      (closes : Closes HasGiven inner_accepts old.flows.receiver old.timed closed mid) (puts : PutsCame mid old.file timed' file')
+      (closes : ClosesOfWhole inner_accepts HasGiven old.flows.receiver old.timed closed mid) (puts : PutsCame mid old.file timed' file')
       → (ended-closed bursts written old mid timed' file' closed has closes puts).file.timed ≡ has.filed.came ++ mid.waiting.items
   unfolding ended-closed filed-file
   closed-came bursts written old mid timed' file' closed has closes puts =
-      filed-came settings capture_map has.steps (map gave closes.given_more) written old.timed mid timed' old.file file' has.filed
-      (closes.was_given old.timed [] (seen_nothing old.timed)) puts
+      let rest = closes.received (check settings capture_map) (made settings capture_map) (items_of has.handed) (given_in has.steps) has.stands in
+      filed-came settings capture_map has.steps (map gave rest.0) (map gave closes.seen) written old.timed mid timed' old.file file' has.filed
+      (closes.was_seen old.timed [] (seen_nothing old.timed)) (rest-as old.flows.receiver.selected has.selected_are rest.0 closes.seen rest.3) puts
 
   pub closed-answers : (bursts : List CapturedBurst) (written : List ℕ) (old : Joining) (mid timed' : TimedFrames) (file' : FrameFile) (closed : Closed) (has : HasEnded settings capture_map bursts written old)
-      (closes : Closes HasGiven inner_accepts old.flows.receiver old.timed closed mid) (puts : PutsCame mid old.file timed' file')
+      (closes : ClosesOfWhole inner_accepts HasGiven old.flows.receiver old.timed closed mid) (puts : PutsCame mid old.file timed' file')
       → answers_in (ended-closed bursts written old mid timed' file' closed has closes puts).comes.came.spelled ≡ answers_in has.comes.came.spelled
   unfolding ended-closed
   closed-answers bursts written old mid timed' file' closed has closes puts = refl
@@ -187,10 +217,11 @@ module _ (settings : CaptureSettings) (capture_map : CaptureMap) where
           subst (λ (flows : CapturedFlows InnerCheck). ComesOf settings capture_map has.bursts has.taken_in.handed (views_in flows) has.taken_in.steps) (sym flows) has.taken_in.comes;
       stands =
           subst
-          (λ (flows : CapturedFlows InnerCheck). StandsFor inner_accepts flows.receiver (check settings capture_map) (made settings capture_map) (items_of has.taken_in.handed) (given_in has.taken_in.steps))
+          (λ (flows : CapturedFlows InnerCheck). StandsForWhole inner_accepts flows.receiver (check settings capture_map) (made settings capture_map) (items_of has.taken_in.handed) (given_in has.taken_in.steps))
           (sym flows) has.taken_in.stands;
       map_is = ap (λ flows. flows.map) flows ∙ has.taken_in.map_is;
       waits_are = ap (λ flows. flows.waits) flows ∙ has.taken_in.waits_are;
+      selected_are = ap (λ flows. flows.receiver.selected) flows ∙ has.taken_in.selected_are;
       filed =
           subst (λ (timed : TimedFrames). HasFiled settings capture_map has.taken_in.steps written timed new.file) (sym timed)
           (subst (λ (file : FrameFile). HasFiled settings capture_map has.taken_in.steps written old.timed file) (sym file) has.taken_in.filed);
@@ -216,6 +247,7 @@ module _ (settings : CaptureSettings) (capture_map : CaptureMap) where
       stands = one.stands;
       map_is = one.map_is;
       waits_are = one.waits_are;
+      selected_are = one.selected_are;
       filed = one.filed;
     }
 
@@ -234,13 +266,14 @@ module _ (settings : CaptureSettings) (capture_map : CaptureMap) where
 
   -- where it was written
   pub ended-written : (bursts : List CapturedBurst) (written : List ℕ) (old new : Joining) → HasEnded settings capture_map bursts written old
-      → new ≡ record old { file = new.file } → new.file.link ≡ old.file.link → new.file.channels ≡ old.file.channels → new.file.selected ≡ old.file.selected → new.file.bytes.items ≡ []
+      → new ≡ record old { file = new.file } → new.file.link ≡ old.file.link → new.file.channels ≡ old.file.channels → new.file.bytes.items ≡ []
       → HasEnded settings capture_map bursts (written ++ old.file.bytes.items) new
-  ended-written bursts written old new has is link channels selected none =
+  ended-written bursts written old new has is link channels none =
       subst (λ (joining : Joining). HasEnded settings capture_map bursts (written ++ old.file.bytes.items) joining) (sym is) (record {
         handed = has.handed;
         steps = has.steps;
         comes = has.comes;
         stands = has.stands;
-        filed = filed-written settings capture_map has.steps written old.timed old.file new.file has.filed link channels selected none;
+        selected_are = has.selected_are;
+        filed = filed-written settings capture_map has.steps written old.timed old.file new.file has.filed link channels none;
       })

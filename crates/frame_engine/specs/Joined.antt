@@ -1,5 +1,5 @@
 -- The frames of a capture with a map, and the file that they make.
-use Rattle.std.specs.Prelude.{◌≡◌, ℕ, Bool, Option, None, List, [], ◌++◌, length, map, replicate}
+use Rattle.std.specs.Prelude.{◌≡◌, ℕ, Bool, Option, None, List, [], ◌++◌, length, filter, map, replicate}
 use Rattle.consumer.specs.declared.given.Given.{Given}
 use Rattle.bonded_flows.specs.Table.{TableSetup}
 use Rattle.receiver.specs.Received.{IsReceived}
@@ -14,6 +14,7 @@ use Rattle.captured_flows.specs.Acts.{Act, items_of}
 use Rattle.captured_flows.specs.Flow.{FlowView}
 use Rattle.captured_flows.specs.Together.{view_begun}
 use Rattle.captured_flows.specs.Captures.{SpellsBursts, EndsAll, made_from}
+use Rattle.captured_flows.specs.Shown.{is_seen}
 use Rattle.captured_flows.specs.Steps.{CaptureStep, gave, given_in}
 use Rattle.captured_flows.specs.Plays.{Plays}
 use Rattle.flow_selection.specs.declared.selection.Selection.TheVariants.{All}
@@ -47,8 +48,8 @@ module _ (settings : CaptureSettings) (capture_map : CaptureMap) where
   abbrev pub whole_file : List TimedStep → List ℕ
   whole_file timed = header_bytes (file_header settings.link) ++ written_in settings.link capture_map.channels.items timed
 
-  -- the file of what came of some steps: a header, and what is written of that but the frames of
-  -- flows that aren't selected
+  -- the file of a part of that: a header, and what is written but the frames of flows that aren't
+  -- selected
   abbrev pub file_of : List TimedStep → List ℕ
   file_of timed = header_bytes (file_header settings.link) ++ left_in settings.selected settings.link capture_map.channels.items timed
 
@@ -56,7 +57,7 @@ module _ (settings : CaptureSettings) (capture_map : CaptureMap) where
   -- flows of the map then stand, and what the receiver gives.
   pub record ComesOf (bursts : List CapturedBurst) (handed : List Act) (flows : List FlowView) (steps : List CaptureStep) : Type 0 where
     pub spelled : SpellsBursts capture_map made settings.waits.wait (map (view_begun settings.waits) capture_map.flows.items) [] bursts handed flows
-    pub plays : Plays inner_accepts check made [] [] handed steps
+    pub plays : Plays check made [] [] handed steps
 
   -- and what comes of it when nothing more comes: what waits is handed in, of one flow after
   -- another
@@ -69,15 +70,19 @@ module _ (settings : CaptureSettings) (capture_map : CaptureMap) where
     pub flows' : List FlowView
     pub ends : EndsAll made settings.waits.wait flows before (length flows) later flows'
     pub handed_is : handed ≡ before ++ later
-    pub plays : Plays inner_accepts check made [] [] handed steps
+    pub plays : Plays check made [] [] handed steps
+
+  -- what is seen of some steps: all but the frames and counts of flows that aren't selected
+  abbrev pub seen_of : List CaptureStep → List CaptureStep
+  seen_of steps = filter (is_seen settings.selected) steps
 
   -- **The file of the frames of the selected flows that come of some steps**, each with the burst
   -- of its flow that was handed in last.
   pub record IsFileOf (steps : List CaptureStep) (text : List ℕ) : Type 0 where
     pub timed : List TimedStep
     pub lasts : List (Option LastBurst)
-    pub is_timed : Timed none_handed_in steps timed lasts
-    pub text_is : text ≡ file_of timed
+    pub is_timed : Timed none_handed_in (seen_of steps) timed lasts
+    pub text_is : text ≡ whole_file timed
 
   -- so of these bursts, as far as they go
   pub record AreFramesSoFar (bursts : List CapturedBurst) (text : List ℕ) : Type 0 where

@@ -7,7 +7,9 @@ use Rattle.flow_core.specs.declared.counts.FlowCounts.{FlowCounts}
 use Rattle.consumer.specs.declared.given.Given.{Given}
 use Rattle.bonded_flows.specs.Table.{TableSetup}
 use Rattle.receiver.specs.HandedIn.{HandedIn}
-use Rattle.receiver.specs.Receiving.{StandsFor, IsSettledAt, HasGivenSince}
+use Rattle.receiver.specs.Receiving.{IsSettledAt, HasGivenSince}
+use Rattle.flow_selection.specs.Selection.{is_selected}
+use Rattle.selected_receiver.specs.Whole.{StandsForWhole}
 use Rattle.capture_map.specs.declared.map.CaptureMap.{CaptureMap}
 use Rattle.capture_summary.specs.Counting.{both_counts}
 use Rattle.capture_summary.specs.declared.flow_summary.FlowSummary.{FlowSummary}
@@ -35,13 +37,14 @@ with_since counts None = counts
 with_since counts (Some since) = both_counts counts since
 
 module _ (reading : FrameReading) where
-  -- what was counted of a flow of the receiver since it last began, if there is such a flow
+  -- what was counted of a flow of the receiver since it last began, if there is such a flow and it is
+  -- selected
   abbrev pub IsCountedSince : ℕ → Option FlowCounts → Type 0
-  IsCountedSince flow None = length reading.joining.flows.receiver.flows.slots.items ≤ flow
+  IsCountedSince flow None = length reading.joining.flows.receiver.receiver.flows.slots.items ≤ flow
   IsCountedSince flow (Some since) =
       (check : List ℕ → Bool) (made : TableSetup) (handed : List HandedIn) (given : List Given) (flow_record : FlowRecord)
-      → StandsFor inner_accepts reading.joining.flows.receiver check made handed given → slice_get made.records flow ≡ Some flow_record
-      → IsSettledAt reading.joining.flows.receiver flow → HasGivenSince check made flow flow_record handed given since
+      → StandsForWhole inner_accepts reading.joining.flows.receiver check made handed given → slice_get made.records flow ≡ Some flow_record
+      → IsSettledAt reading.joining.flows.receiver.receiver flow → is_selected reading.joining.flows.receiver.selected flow ≡ true → HasGivenSince check made flow flow_record handed given since
 
   -- **what was counted of the selected flows together**, of each what its summary has, which is
   -- what was counted until it began anew, and what was counted since

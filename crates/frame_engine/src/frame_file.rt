@@ -5,13 +5,11 @@ ghost use Rattle.engines.specs.Device.{inner_of, has_failed};
 ghost use Rattle.engines.specs.Transfer.{AppendsFront, IsLeftFlushed};
 ghost use Rattle.capture.specs.Pcap.{header_bytes};
 ghost use Rattle.frame_records.specs.Frames.{file_header};
-ghost use Rattle.timed_frames.specs.declared.timed_step.TimedStep.TheVariants.{Frame};
-ghost use Rattle.frame_engine.specs.Written.{id_of, origin_of, frame_written, left_in};
+ghost use Rattle.frame_engine.specs.Written.{id_of, origin_of, frame_written, written_in};
 
 use capture_map::MapChannel;
 use docsis_wire::Bytes;
 use engines::{Device, WriteFault, write_text};
-use flow_selection::Selection;
 use frame_records::{FrameLink, FrameOrigin, LONGEST_FRAME, put_file_header, put_frame};
 use std::alloc::{AllocError, Global};
 use std::io::Write;
@@ -46,22 +44,18 @@ fn origin_of(channels: &[MapChannel], burst: LastBurst) -> FrameOrigin
 pub(crate) struct FrameFile {
     pub(crate) link: FrameLink,
     pub(crate) channels: Vec<MapChannel>,
-    /// Whose frames come into it.
-    pub(crate) selected: Selection,
     pub(crate) bytes: Vec<u8>,
 }
 
 impl FrameFile {
-    /// The header of a file of the frames of these flows, for the channels of a map.
+    /// The header of a file of frames, for the channels of a map.
     pub fn new(
         alloc: Global,
         link: FrameLink,
         channels: &[MapChannel],
-        selected: Selection,
     ) -> Result<FrameFile, AllocError>
         ensures link { IfOk result (λ file. file.link ≡ link) }
         ensures channels { IfOk result (λ file. file.channels.items ≡ channels.now) }
-        ensures selected { IfOk result (λ file. file.selected ≡ selected) }
         ensures bytes { IfOk result (λ file. file.bytes.items ≡ header_bytes (file_header link)) }
     {
         let channels = Vec::from_slice(alloc, channels)?;
@@ -70,7 +64,6 @@ impl FrameFile {
         Ok(FrameFile {
             link,
             channels,
-            selected,
             bytes,
         })
     }
@@ -87,7 +80,6 @@ impl FrameFile {
         ensures refused { OnErr result (self.new.bytes.items ≡ self.old.bytes.items) }
         ensures link { self.new.link ≡ self.old.link }
         ensures channels { self.new.channels ≡ self.old.channels }
-        ensures selected { self.new.selected ≡ self.old.selected }
     {
         if frame.len() > LONGEST_FRAME {
             return Ok(());
@@ -103,54 +95,28 @@ impl FrameFile {
         )
     }
 
-    /// Appends the record of a frame of this flow, if it is selected.
-    fn put_selected(
-        &mut self,
-        alloc: Global,
-        flow: usize,
-        burst: LastBurst,
-        frame: &Bytes,
-    ) -> Result<(), AllocError>
-        ensures put { OnOk result (self.new.bytes.items ≡ self.old.bytes.items
-            ++ left_in self.old.selected self.old.link self.old.channels.items
-            (Frame flow burst frame.now ∷ [])) }
-        ensures refused { OnErr result (self.new.bytes.items ≡ self.old.bytes.items) }
-        ensures link { self.new.link ≡ self.old.link }
-        ensures channels { self.new.channels ≡ self.old.channels }
-        ensures selected { self.new.selected ≡ self.old.selected }
-    {
-        if !self.selected.has(flow) {
-            return Ok(());
-        }
-        self.put_frame(alloc, burst, frame)
-    }
-
-    /// Appends what is written of something that came, where it isn't a frame of another flow.
+    /// Appends what is written of something that came.
     fn put(&mut self, alloc: Global, step: &TimedStep) -> Result<(), AllocError>
         ensures put { OnOk result (self.new.bytes.items ≡ self.old.bytes.items
-            ++ left_in self.old.selected self.old.link self.old.channels.items
+            ++ written_in self.old.link self.old.channels.items
             (step.now ∷ [])) }
         ensures refused { OnErr result (self.new.bytes.items ≡ self.old.bytes.items) }
         ensures link { self.new.link ≡ self.old.link }
         ensures channels { self.new.channels ≡ self.old.channels }
-        ensures selected { self.new.selected ≡ self.old.selected }
     {
         match step {
-            TimedStep::Frame { flow, burst, frame } => {
-                self.put_selected(alloc, *flow, *burst, frame)
-            }
+            TimedStep::Frame { burst, frame, .. } => self.put_frame(alloc, *burst, frame),
             _ => Ok(()),
         }
     }
 
-    /// Appends what is written of all that came but the frames of other flows, or nothing.
+    /// Appends what is written of all that came, or nothing.
     pub fn put_all(&mut self, alloc: Global, steps: &[TimedStep]) -> Result<(), AllocError>
         ensures put { OnOk result (self.new.bytes.items ≡ self.old.bytes.items
-            ++ left_in self.old.selected self.old.link self.old.channels.items steps.now) }
+            ++ written_in self.old.link self.old.channels.items steps.now) }
         ensures refused { OnErr result (self.new.bytes.items ≡ self.old.bytes.items) }
         ensures link { self.new.link ≡ self.old.link }
         ensures channels { self.new.channels ≡ self.old.channels }
-        ensures selected { self.new.selected ≡ self.old.selected }
     {
         let kept = self.bytes.len();
         for step in steps {
@@ -174,7 +140,6 @@ impl FrameFile {
         ensures none_left { OnOk result (self.new.bytes.items ≡ []) }
         ensures link { self.new.link ≡ self.old.link }
         ensures channels { self.new.channels ≡ self.old.channels }
-        ensures selected { self.new.selected ≡ self.old.selected }
     {
         write_text(writer, &self.bytes)?;
         self.bytes.clear();

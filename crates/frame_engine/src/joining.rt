@@ -1,6 +1,6 @@
 //! What came of the bursts of a capture so far.
 ghost use Rattle.std.specs.Prelude.{◌≡◌, [], IfOk, IfErr, OnOk, OnErr};
-ghost use Rattle.receiver.specs.Receiving.{IsReceiving};
+ghost use Rattle.selected_receiver.specs.Whole.{IsReceivingWhole};
 ghost use Rattle.capture.specs.SeenCapture.{capture_parts};
 ghost use Rattle.captured_flows.specs.Capturing.{IsCapturing};
 ghost use Rattle.captured_flows.specs.Captures.{IsFaultOf};
@@ -29,6 +29,7 @@ use capture::CaptureRecord;
 use capture_map::CaptureMap;
 use captured_flows::{BurstTaken, CapturedBurst, CapturedFlows};
 use engines::{Device, EngineFault};
+use flow_selection::Selection;
 use lane::Refusal;
 use receiver::{Reply, SetupError};
 use std::alloc::Global;
@@ -49,6 +50,7 @@ pub(crate) struct Joining {
 /// an allocation failed, here or before, the file stays as it was.
 fn put_came(
     alloc: Global,
+    selected: &Selection,
     timed: &mut TimedFrames,
     file: &mut FrameFile,
     tally: &mut CaptureTally,
@@ -56,7 +58,7 @@ fn put_came(
 ) -> Result<(), EngineFault>
     ensures put { OnOk result (PutsCame timed.old file.old timed.new file.new) }
     ensures compared { OnOk result (Takes
-        (arrivals_of_steps file.old.selected timed.old.waiting.items)
+        (arrivals_of_steps selected.now timed.old.waiting.items)
         comparing.old comparing.new) }
     ensures explained { OnOk result (ExplainsAfter (told_in_steps timed.old.waiting.items)
         comparing.new.comparison comparing.old.reasons comparing.new.reasons) }
@@ -68,7 +70,7 @@ fn put_came(
     }
     file.put_all(alloc, timed.waiting())?;
     tally.count_steps(alloc, timed.waiting());
-    comparing.take_steps(alloc, &file.selected, timed.waiting());
+    comparing.take_steps(alloc, selected, timed.waiting());
     timed.let_go(alloc);
     Ok(())
 }
@@ -95,8 +97,8 @@ impl Joining {
             selected,
         } = settings;
         let timed = TimedFrames::new(alloc, capture_map.flows.len())?;
-        let file = FrameFile::new(alloc, link, &capture_map.channels, selected)?;
-        let flows = CapturedFlows::new(alloc, capture_map, rule, waits, check)?;
+        let file = FrameFile::new(alloc, link, &capture_map.channels)?;
+        let flows = CapturedFlows::new(alloc, capture_map, rule, waits, selected, check)?;
         Ok(Joining {
             flows,
             timed,
@@ -129,7 +131,14 @@ impl Joining {
             Ok(told) => {
                 tally.count_burst(id, is_above, told);
                 comparing.tell_taken(burst_id, told);
-                let put = put_came(alloc, &mut self.timed, &mut self.file, tally, comparing);
+                let put = put_came(
+                    alloc,
+                    self.flows.selected(),
+                    &mut self.timed,
+                    &mut self.file,
+                    tally,
+                    comparing,
+                );
                 self.mark(id, sid, time, told, tally);
                 put
             }
@@ -175,7 +184,7 @@ impl Joining {
     {
         self.records = self.records.saturating_add(1);
         tally.count_record(given.nanoseconds);
-        comparing.take_record(alloc, &self.flows, &self.file.selected, &given);
+        comparing.take_record(alloc, &self.flows, self.flows.selected(), &given);
         match captured(given) {
             Ok((burst, is_above)) => self.take_burst(alloc, burst, is_above, tally, comparing),
             Err(reason) => {
@@ -196,12 +205,19 @@ impl Joining {
         ensures ended { OnOk result (EndsJoining self.old self.new) }
         ensures compared { OnOk result
             (EndsBeside self.old comparing.old self.new comparing.new) }
-        ensures receiving { OnOk result (IsReceiving inner_accepts self.new.flows.receiver) }
+        ensures receiving { OnOk result (IsReceivingWhole inner_accepts self.new.flows.receiver) }
         ensures file { OnErr result (KeepsFile self.old.file self.new.file) }
         ensures only { IfErr result (λ fault. fault ≡ OutOfMemory) }
     {
         match self.flows.end_waiting(alloc, &mut self.timed) {
-            Ok(_) => put_came(alloc, &mut self.timed, &mut self.file, tally, comparing),
+            Ok(_) => put_came(
+                alloc,
+                self.flows.selected(),
+                &mut self.timed,
+                &mut self.file,
+                tally,
+                comparing,
+            ),
             Err(_) => Err(EngineFault::OutOfMemory),
         }
     }
@@ -223,7 +239,7 @@ impl Joining {
         tally: &mut CaptureTally,
         comparing: &mut Comparing,
     ) -> (FrameFile, Result<(), EngineFault>)
-        requires receiving { IsReceiving inner_accepts self.flows.receiver }
+        requires receiving { IsReceivingWhole inner_accepts self.flows.receiver }
         ensures closed { OnOk result.1 (ClosesJoining self result.0) }
         ensures compared { OnOk result.1
             (ClosesBeside self comparing.old result.0 comparing.new) }
@@ -236,10 +252,11 @@ impl Joining {
             mut file,
             records: _,
         } = self;
-        match flows.into_receiver().close(alloc, &mut timed) {
+        let (selected, closed) = flows.into_receiver().close(alloc, &mut timed);
+        match closed {
             Ok(closed) => {
                 tally.count_all_closed(&closed.flows);
-                let put = put_came(alloc, &mut timed, &mut file, tally, comparing);
+                let put = put_came(alloc, &selected, &mut timed, &mut file, tally, comparing);
                 (file, put)
             }
             Err(_) => (file, Err(EngineFault::OutOfMemory)),
@@ -254,7 +271,7 @@ impl Joining {
         comparing: &mut Comparing,
         writer: &mut Device<W>,
     ) -> Result<(), EngineFault>
-        requires receiving { IsReceiving inner_accepts self.flows.receiver }
+        requires receiving { IsReceivingWhole inner_accepts self.flows.receiver }
         ensures written { ClosesWritten W.contents self writer.old writer.new result }
         ensures compared { OnOk result (ClosesWrittenBeside W.contents self comparing.old
             writer.old comparing.new writer.new) }

@@ -1,6 +1,7 @@
 -- What a receiver takes of stand-ins it takes of the whole.
 use Rattle.std.proofs.Common.{◌≡◌, ℕ, ◌<◌, ◌≤◌, ◌⊎◌, inl, inr, Bool, true, false, Option, Some, None, Result, Ok, Err, List, [], ◌∷◌, ◌++◌, length, map, refl, sym, ap, subst, ◌∙◌, append-nil}
-use Rattle.std.specs.Prelude.{slice_get, IfSome}
+use Rattle.std.specs.Prelude.{filter, slice_get, if◌then◌else◌, IfSome}
+use Rattle.answers.specs.Beside.{is_told_if_given}
 use Rattle.std.specs.List.{AllZip}
 use Rattle.std.specs.Option.{option_map}
 use Rattle.std.proofs.lemmas.Bool.{eq-eqb, false≢true}
@@ -42,7 +43,9 @@ use Rattle.selected_receiver.specs.declared.selected_receiver.SelectedReceiver.{
 use Rattle.selected_receiver.specs.StandIns.{AreHeadedAlike, MayStandIn}
 use Rattle.selected_receiver.specs.Given.{ClosesFlow}
 use Rattle.selected_receiver.specs.Whole.{IsWhole, IsSeenOf, StandsForWhole, IsReceivingWhole}
-use Rattle.selected_receiver.specs.Taking.{WasSeen, TakesWhole, TakesSomeOfWhole, RepliesOfWhole, RestartsOfWhole, ClosesOfWhole}
+use Rattle.selected_receiver.specs.declared.of_selected.OfSelected.{OfSelected}
+use Rattle.selected_receiver.specs.Handing.{HandsOn}
+use Rattle.selected_receiver.specs.Taking.{WasSeen, seen_of, TakesWhole, TakesSomeOfWhole, RepliesOfWhole, RestartsOfWhole, ClosesOfWhole}
 use Rattle.selected_receiver.proofs.AlikeWhole.{told-of_whole}
 use Rattle.selected_receiver.proofs.Grown.{whole-nothing, whole-more, whole-input, whole-decision, whole-restart, whole-closed, whole-answer}
 
@@ -163,9 +166,50 @@ module _ (selected : Selection) (check : List ℕ → Bool) (made : TableSetup) 
         also_more stands'.flows.others in
         record { its = its; more = grown.0; whole_then = grown.1; seen = grown.2 }
 
+-- ---- what is seen
+
+-- a consumer that was given nothing hands on nothing
+pub hands-nothing : {O : Type 0} (after : O → List Given → O → Type 0) (w : OfSelected O) → HandsOn after w [] w
+hands-nothing after w = record {
+  same = refl;
+  selected = refl;
+  handed_on = λ first before was. subst (λ (g : List Given). after first g w.out.now) (sym (append-nil before)) was;
+}
+
+-- frames of a flow are seen where it is selected
+frames_seen : (selected : Selection) (flow : ℕ) (frames : List (List ℕ)) (b : Bool) → is_selected selected flow ≡ b
+    → seen_of selected (map (Frame flow) frames) ≡ (if b then map (Frame flow) frames else [])
+frames_seen selected flow [] true is = refl
+frames_seen selected flow [] false is = refl
+frames_seen selected flow (frame ∷ frames) true is =
+    ap (λ (c : Bool). if c then Frame flow frame ∷ seen_of selected (map (Frame flow) frames) else seen_of selected (map (Frame flow) frames)) is
+    ∙ ap (λ (t : List Given). Frame flow frame ∷ t) (frames_seen selected flow frames true is)
+frames_seen selected flow (frame ∷ frames) false is =
+    ap (λ (c : Bool). if c then Frame flow frame ∷ seen_of selected (map (Frame flow) frames) else seen_of selected (map (Frame flow) frames)) is
+    ∙ frames_seen selected flow frames false is
+
+same_seen : (selected : Selection) (flow : ℕ) (frames theirs : List (List ℕ)) → (is_selected selected flow ≡ true → frames ≡ theirs)
+    → seen_of selected (map (Frame flow) theirs) ≡ seen_of selected (map (Frame flow) frames)
+same_seen selected flow frames theirs same = by_flag (is_selected selected flow) refl where
+  by_flag : (b : Bool) → is_selected selected flow ≡ b → seen_of selected (map (Frame flow) theirs) ≡ seen_of selected (map (Frame flow) frames)
+  by_flag true is = ap (λ (f : List (List ℕ)). seen_of selected (map (Frame flow) f)) (sym (same is))
+  by_flag false is = frames_seen selected flow theirs false is ∙ sym (frames_seen selected flow frames false is)
+
 -- ---- what is taken of stand-ins is taken of the whole
 
-module _ {C O : Type 0} (accepts : C → List ℕ → Bool) (after : O → List Given → O → Type 0) (old new : SelectedReceiver C) (out out' : O) (same : new.selected ≡ old.selected) where
+module _ {C O : Type 0} (accepts : C → List ℕ → Bool) (after : O → List Given → O → Type 0) (old new : SelectedReceiver C) (w w' : OfSelected O) (same : new.selected ≡ old.selected) (of_old : w.selected ≡ old.selected) where
+  abbrev seen_in : List Given → List Given
+  seen_in given = seen_of old.selected given
+
+  -- what was given to the consumer behind
+  was-seen : (given : List Given) → HandsOn after w given w' → WasSeen after w.out.now (seen_in given) w'.out.now
+  was-seen given hands first before was =
+      subst (λ (s : Selection). after first (before ++ seen_of s given) w'.out.now) of_old (hands.handed_on first before was)
+
+  -- a list that was given behind nothing
+  all-given : (given : List Given) → ((start : OfSelected O) (before : List Given) → HandsOn after start before w → HandsOn after start (before ++ given) w') → HandsOn after w given w'
+  all-given given was = was w [] (hands-nothing after w)
+
   stands-new : (check : List ℕ → Bool) (made : TableSetup) (others : List HandedIn) (also : List Given) (handed : List HandedIn) (given : List Given)
       → StandsFor accepts new.receiver check made others also → IsWhole (is_selected old.selected) check made others also handed given
       → StandsForWhole accepts new check made handed given
@@ -177,26 +221,26 @@ module _ {C O : Type 0} (accepts : C → List ℕ → Bool) (after : O → List 
   }
 
   -- a decision
-  pub takes-decided : (flow : ℕ) (decision : FlowDecision) → TakesMore after accepts old.receiver out (decided flow decision ∷ []) new.receiver out'
-      → TakesWhole accepts after old out (decided flow decision ∷ []) new out'
+  pub takes-decided : (flow : ℕ) (decision : FlowDecision) → TakesMore (HandsOn after) accepts old.receiver w (decided flow decision ∷ []) new.receiver w'
+      → TakesWhole accepts after old w.out.now (decided flow decision ∷ []) new w'.out.now
   takes-decided flow decision takes = record {
-    seen = takes.given_more;
-    was_seen = takes.was_given;
+    seen = seen_in takes.given_more;
+    was_seen = was-seen takes.given_more (all-given takes.given_more takes.was_given);
     selected = same;
     stands = λ check made handed given was.
         let stands = takes.stands check made was.others was.also was.stands in
         let grown = whole-decision old.selected check made was.others was.also handed given was.whole flow decision takes.given_more stands.flows.others in (
           grown.0,
           stands-new check made (was.others ++ decided flow decision ∷ []) (was.also ++ takes.given_more) (handed ++ decided flow decision ∷ []) (given ++ grown.0) stands grown.1,
-          grown.2,
+          sym grown.2,
         );
   }
 
   -- nothing besides
-  pub takes-nothing : TakesMore after accepts old.receiver out [] new.receiver out' → TakesSomeOfWhole accepts after old out new out'
+  pub takes-nothing : TakesMore (HandsOn after) accepts old.receiver w [] new.receiver w' → TakesSomeOfWhole accepts after old w.out.now new w'.out.now
   takes-nothing takes = record {
-    seen = takes.given_more;
-    was_seen = takes.was_given;
+    seen = seen_in takes.given_more;
+    was_seen = was-seen takes.given_more (all-given takes.given_more takes.was_given);
     selected = same;
     stands = λ check made handed given was.
         let stands = subst (λ (h : List HandedIn). StandsFor accepts new.receiver check made h (was.also ++ takes.given_more)) (append-nil was.others)
@@ -206,16 +250,16 @@ module _ {C O : Type 0} (accepts : C → List ℕ → Bool) (after : O → List 
           grown.0,
           subst (λ (h : List HandedIn). StandsForWhole accepts new check made h (given ++ grown.0)) (sym (append-nil handed))
               (stands-new check made was.others (was.also ++ takes.given_more) handed (given ++ grown.0) stands grown.1),
-          grown.2,
+          sym grown.2,
         );
   }
 
   -- nothing at all
-  nothing-taken : new.receiver ≡ old.receiver → out' ≡ out → TakesMore after accepts old.receiver out [] new.receiver out'
+  nothing-taken : new.receiver ≡ old.receiver → w' ≡ w → TakesMore (HandsOn after) accepts old.receiver w [] new.receiver w'
   nothing-taken still unchanged = record {
     given_more = [];
     was_given = λ start given was.
-        subst (λ (o : O). after start (given ++ []) o) (sym unchanged) (subst (λ (g : List Given). after start g out) (sym (append-nil given)) was);
+        subst (λ (o : OfSelected O). HandsOn after start (given ++ []) o) (sym unchanged) (subst (λ (g : List Given). HandsOn after start g w) (sym (append-nil given)) was);
     stands = λ check made handed given stands.
         subst (λ (r : Receiver C). StandsFor accepts r check made (handed ++ []) (given ++ [])) (sym still)
         (subst (λ (h : List HandedIn). StandsFor accepts old.receiver check made h (given ++ [])) (sym (append-nil handed))
@@ -223,7 +267,7 @@ module _ {C O : Type 0} (accepts : C → List ℕ → Bool) (after : O → List 
   }
 
   -- so of something
-  some-of : (more : List HandedIn) → TakesWhole accepts after old out more new out' → TakesSomeOfWhole accepts after old out new out'
+  some-of : (more : List HandedIn) → TakesWhole accepts after old w.out.now more new w'.out.now → TakesSomeOfWhole accepts after old w.out.now new w'.out.now
   some-of more takes = record {
     seen = takes.seen;
     was_seen = takes.was_seen;
@@ -233,17 +277,17 @@ module _ {C O : Type 0} (accepts : C → List ℕ → Bool) (after : O → List 
 
   -- a decision that wasn't taken, or not to the end
   pub some-decided : (flow : ℕ) (decision : FlowDecision) (fault : DecideFault)
-      → LeavesOf fault (TakesMore after accepts old.receiver out [] new.receiver out') (TakesMore after accepts old.receiver out (decided flow decision ∷ []) new.receiver out')
-      → TakesSomeOfWhole accepts after old out new out'
+      → LeavesOf fault (TakesMore (HandsOn after) accepts old.receiver w [] new.receiver w') (TakesMore (HandsOn after) accepts old.receiver w (decided flow decision ∷ []) new.receiver w')
+      → TakesSomeOfWhole accepts after old w.out.now new w'.out.now
   some-decided flow decision (decide_fault.NotTaken why) leaves = takes-nothing leaves
   some-decided flow decision decide_fault.Unfinished leaves = some-of (decided flow decision ∷ []) (takes-decided flow decision leaves)
 
   -- a flow that begins anew
-  pub takes-restart : (flow first : ℕ) (counts : FlowCounts) → Restarts after accepts old.receiver out flow first counts new.receiver out'
-      → RestartsOfWhole accepts after old out flow first counts new out'
+  pub takes-restart : (flow first : ℕ) (counts : FlowCounts) → Restarts (HandsOn after) accepts old.receiver w flow first counts new.receiver w'
+      → RestartsOfWhole accepts after old w.out.now flow first counts new w'.out.now
   takes-restart flow first counts restarts = record {
-    seen = restarts.more;
-    was_seen = restarts.was_given;
+    seen = seen_in (map (Frame flow) restarts.more);
+    was_seen = was-seen (map (Frame flow) restarts.more) (all-given (map (Frame flow) restarts.more) restarts.was_given);
     selected = same;
     stands = λ check made handed given was.
         let stands = restarts.stands check made was.others was.also was.stands in
@@ -254,16 +298,18 @@ module _ {C O : Type 0} (accepts : C → List ℕ → Bool) (after : O → List 
           stands-new check made (was.others ++ restarted flow first ∷ []) (was.also ++ map (Frame flow) restarts.more) (handed ++ restarted flow first ∷ [])
               (given ++ map (Frame flow) grown.0) stands grown.2,
           grown.3,
-          grown.4,
+          same_seen old.selected flow grown.0 restarts.more (λ of_selected. (grown.4 of_selected).0),
+          λ of_selected. (grown.4 of_selected).1,
         );
   }
 
   module _ (channel : ℕ) (input other : Input) (may : MayStandIn accepts (is_selected old.selected) old.receiver channel input other) (bytes : HasBytes input) where
     -- an input
-    pub takes-input : (reply : Reply) → Replies after accepts old.receiver out channel other reply new.receiver out' → RepliesOfWhole accepts after old out channel input reply new out'
+    pub takes-input : (reply : Reply) → Replies (HandsOn after) accepts old.receiver w channel other reply new.receiver w'
+        → RepliesOfWhole accepts after old w.out.now channel input reply new w'.out.now
     takes-input reply replies = record {
-      seen = replies.takes.given_more;
-      was_seen = replies.takes.was_given;
+      seen = seen_in replies.takes.given_more;
+      was_seen = was-seen replies.takes.given_more (all-given replies.takes.given_more replies.takes.was_given);
       selected = same;
       stands = λ check made handed given was.
           let one : AnsweredInput = record { input = other; answer = replies.answer } in
@@ -279,17 +325,17 @@ module _ {C O : Type 0} (accepts : C → List ℕ → Bool) (after : O → List 
             grown.more,
             stands-new check made (was.others ++ came channel one ∷ []) (was.also ++ replies.takes.given_more) (handed ++ came channel real ∷ []) (given ++ grown.more) stands
                 grown.whole_then,
-            grown.seen,
+            sym grown.seen,
           );
     }
 
     -- one that wasn't taken, or not to the end
-    pub some-failed : (error : TakeError) → Fails after accepts old.receiver out channel other error new.receiver out' → TakesSomeOfWhole accepts after old out new out'
+    pub some-failed : (error : TakeError) → Fails (HandsOn after) accepts old.receiver w channel other error new.receiver w' → TakesSomeOfWhole accepts after old w.out.now new w'.out.now
     some-failed (take_error.NoChannel back) fails = takes-nothing (nothing-taken fails.2 fails.3)
     some-failed (take_error.NotTaken back why) fails = takes-nothing fails.3
     some-failed (take_error.Unfinished flow) fails = record {
-      seen = fails.takes.given_more;
-      was_seen = fails.takes.was_given;
+      seen = seen_in fails.takes.given_more;
+      was_seen = was-seen fails.takes.given_more (all-given fails.takes.given_more fails.takes.was_given);
       selected = same;
       stands = λ check made handed given was.
           let answer : Answer = Ok (Some fails.admitted) in
@@ -302,22 +348,24 @@ module _ {C O : Type 0} (accepts : C → List ℕ → Bool) (after : O → List 
             grown.more,
             stands-new check made (was.others ++ came channel one ∷ []) (was.also ++ fails.takes.given_more) (handed ++ came channel real ∷ []) (given ++ grown.more) stands
                 grown.whole_then,
-            grown.seen,
+            sym grown.seen,
           );
     }
 
-  -- it stands for something still
-  pub receiving-then : TakesSomeOfWhole accepts after old out new out' → IsReceivingWhole accepts old → IsReceivingWhole accepts new
-  receiving-then takes was =
-      let stands = takes.stands was.check was.made was.handed was.given was.stands in
-      record { check = was.check; made = was.made; handed = was.handed ++ stands.0; given = was.given ++ stands.1; stands = stands.2 }
+  -- the close
+  pub closes-whole : (closed : Closed) → Closes (HandsOn after) accepts old.receiver w closed w' → ClosesOfWhole accepts after old w.out.now closed w'.out.now
+  closes-whole closed closes = record {
+    seen = seen_in closes.given_more;
+    was_seen = was-seen closes.given_more (all-given closes.given_more closes.was_given);
+    received = λ check made handed given was.
+        let grown = whole-closed old.selected check made was.others was.also handed given was.whole closes.given_more closed
+        (closes.received check made was.others was.also was.stands) in
+        (grown.0, grown.1, grown.2, sym grown.3, grown.4);
+  }
 
--- the close
-pub closes-whole : {C O : Type 0} (accepts : C → List ℕ → Bool) (after : O → List Given → O → Type 0) (old : SelectedReceiver C) (out out' : O) (closed : Closed)
-    → Closes after accepts old.receiver out closed out' → ClosesOfWhole accepts after old out closed out'
-closes-whole accepts after old out out' closed closes = record {
-  seen = closes.given_more;
-  was_seen = closes.was_given;
-  received = λ check made handed given was.
-      whole-closed old.selected check made was.others was.also handed given was.whole closes.given_more closed (closes.received check made was.others was.also was.stands);
-}
+-- it stands for something still
+pub receiving-then : {C O : Type 0} (accepts : C → List ℕ → Bool) (after : O → List Given → O → Type 0) (old new : SelectedReceiver C) (out out' : O)
+    → TakesSomeOfWhole accepts after old out new out' → IsReceivingWhole accepts old → IsReceivingWhole accepts new
+receiving-then accepts after old new out out' takes was =
+    let stands = takes.stands was.check was.made was.handed was.given was.stands in
+    record { check = was.check; made = was.made; handed = was.handed ++ stands.0; given = was.given ++ stands.1; stands = stands.2 }

@@ -1,3 +1,4 @@
+pub mod Handing
 pub mod StandIns
 pub mod Given
 pub mod Whole

@@ -1,5 +1,5 @@
 -- What a receiver takes that joins the selected flows alone, and what is seen of it.
-use Rattle.std.specs.Prelude.{◌≡◌, ℕ, Bool, true, Some, List, [], ◌∷◌, ◌++◌, map, slice_get}
+use Rattle.std.specs.Prelude.{◌≡◌, ℕ, Bool, true, Some, List, [], ◌∷◌, ◌++◌, filter, map, slice_get}
 use Rattle.flow_records.specs.declared.record.FlowRecord.{FlowRecord}
 use Rattle.flow_core.specs.declared.counts.FlowCounts.{FlowCounts}
 use Rattle.flow_selection.specs.Selection.{is_selected}
@@ -13,10 +13,15 @@ use Rattle.receiver.specs.declared.reply.Reply.{Reply}
 use Rattle.receiver.specs.HandedIn.{HandedIn, came, restarted}
 use Rattle.receiver.specs.Receiving.{Says, IsToldRightly, IsNumberExpected}
 use Rattle.receiver.specs.Received.{IsReceived}
-use Rattle.answers.specs.Beside.{AreCountedAlike}
+use Rattle.flow_selection.specs.declared.selection.Selection.{Selection}
+use Rattle.answers.specs.Beside.{AreCountedAlike, is_told_if_given}
 use Rattle.selected_receiver.specs.declared.selected_receiver.SelectedReceiver.{SelectedReceiver}
 use Rattle.selected_receiver.specs.Given.{ClosesFlow}
-use Rattle.selected_receiver.specs.Whole.{IsSeenOf, StandsForWhole}
+use Rattle.selected_receiver.specs.Whole.{StandsForWhole}
+
+-- what is seen of what is given: just what is of a selected flow, or of none
+abbrev pub seen_of : Selection → List Given → List Given
+seen_of selected given = filter (is_told_if_given selected) given
 
 module _ {C : Type 0} (accepts : C → List ℕ → Bool) where
   -- whatever was handed in, the flow expects this number
@@ -37,7 +42,7 @@ module _ {C : Type 0} (accepts : C → List ℕ → Bool) where
       pub was_seen : WasSeen out seen out'
       pub selected : receiver'.selected ≡ receiver.selected
       pub stands : (check : List ℕ → Bool) (made : TableSetup) (handed : List HandedIn) (given : List Given) → StandsForWhole accepts receiver check made handed given
-          → (given_more : List Given) × StandsForWhole accepts receiver' check made (handed ++ more) (given ++ given_more) × IsSeenOf receiver.selected given_more seen
+          → (given_more : List Given) × StandsForWhole accepts receiver' check made (handed ++ more) (given ++ given_more) × (seen ≡ seen_of receiver.selected given_more)
 
     -- where something fails on the way: so of something
     pub record TakesSomeOfWhole (receiver : SelectedReceiver C) (out : O) (receiver' : SelectedReceiver C) (out' : O) : Type 0 where
@@ -46,7 +51,7 @@ module _ {C : Type 0} (accepts : C → List ℕ → Bool) where
       pub selected : receiver'.selected ≡ receiver.selected
       pub stands : (check : List ℕ → Bool) (made : TableSetup) (handed : List HandedIn) (given : List Given) → StandsForWhole accepts receiver check made handed given
           → (more : List HandedIn) × (given_more : List Given)
-          × StandsForWhole accepts receiver' check made (handed ++ more) (given ++ given_more) × IsSeenOf receiver.selected given_more seen
+          × StandsForWhole accepts receiver' check made (handed ++ more) (given ++ given_more) × (seen ≡ seen_of receiver.selected given_more)
 
     -- **An input was taken**: its lane answered it, this was told of it, and the consumer was given
     -- what is seen of what was given more.
@@ -57,19 +62,20 @@ module _ {C : Type 0} (accepts : C → List ℕ → Bool) where
       pub stands : (check : List ℕ → Bool) (made : TableSetup) (handed : List HandedIn) (given : List Given) → StandsForWhole accepts receiver check made handed given
           → (answer : Answer) × Says reply answer × IsToldRightly made handed channel answer reply × (given_more : List Given)
           × StandsForWhole accepts receiver' check made (handed ++ came channel (record { input = input; answer = answer }) ∷ []) (given ++ given_more)
-          × IsSeenOf receiver.selected given_more seen
+          × (seen ≡ seen_of receiver.selected given_more)
 
-    -- **The flow was closed and begins anew** at this number. The consumer was given these frames,
-    -- and of a selected flow that is what it gave, and these are its counts.
+    -- **The flow was closed and begins anew** at this number. The consumer was given what is seen of
+    -- what the flow gave, and of a selected flow these are the counts.
     pub record RestartsOfWhole (receiver : SelectedReceiver C) (out : O) (flow first : ℕ) (counts : FlowCounts) (receiver' : SelectedReceiver C) (out' : O) : Type 0 where
-      pub seen : List (List ℕ)
-      pub was_seen : WasSeen out (map (Frame flow) seen) out'
+      pub seen : List Given
+      pub was_seen : WasSeen out seen out'
       pub selected : receiver'.selected ≡ receiver.selected
       pub stands : (check : List ℕ → Bool) (made : TableSetup) (handed : List HandedIn) (given : List Given) → StandsForWhole accepts receiver check made handed given
           → (frames : List (List ℕ)) × (counted : FlowCounts)
           × StandsForWhole accepts receiver' check made (handed ++ restarted flow first ∷ []) (given ++ map (Frame flow) frames)
           × ClosesFlow check made flow handed given frames counted
-          × (is_selected receiver.selected flow ≡ true → (frames ≡ seen) × (counted ≡ counts))
+          × (seen ≡ seen_of receiver.selected (map (Frame flow) frames))
+          × (is_selected receiver.selected flow ≡ true → counted ≡ counts)
 
     -- **It was closed**: whatever was handed in, what was given of it is the answer for that, and
     -- the consumer was given what is seen of it. The counts are those of the selected flows.
@@ -78,4 +84,4 @@ module _ {C : Type 0} (accepts : C → List ℕ → Bool) where
       pub was_seen : WasSeen out seen out'
       pub received : (check : List ℕ → Bool) (made : TableSetup) (handed : List HandedIn) (given : List Given) → StandsForWhole accepts receiver check made handed given
           → (given_more : List Given) × (counted : Closed) × IsReceived check made handed (given ++ given_more) counted
-          × IsSeenOf receiver.selected given_more seen × AreCountedAlike receiver.selected closed counted
+          × (seen ≡ seen_of receiver.selected given_more) × AreCountedAlike receiver.selected closed counted

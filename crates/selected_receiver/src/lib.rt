@@ -12,11 +12,12 @@
 //! 3. [`SelectedReceiver::close`] closes all flows.
 //!
 //! What matters most: it stands for the whole (`StandsForWhole`), which nobody need have handed in.
-//! Of the selected flows, and of none, the consumer is given what is given of the whole, in the same
-//! order, and all else that is answered is answered of the whole.
+//! The consumer is given just what is given of the whole and is of a selected flow, or of none, in
+//! the same order; and all that is answered is answered of the whole.
 #![tactic(auto)]
 
 mod flow_fault;
+mod of_selected;
 mod selected_receiver;
 
 pub use flow_fault::FlowFault;

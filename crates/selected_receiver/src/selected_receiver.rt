@@ -10,13 +10,14 @@ ghost use Rattle.bonded_flows.specs.Table.{TableSetup};
 ghost use Rattle.receiver.specs.Elsewhere.{LooksLike};
 ghost use Rattle.receiver.specs.HandedIn.{HandedIn, decided};
 ghost use Rattle.receiver.specs.Receiving.{StandsFor, IsReceiving, IsSettledAt, HasGivenSince};
-ghost use Rattle.receiver.specs.Received.{BeginsToClose, IsBeingClosed};
+ghost use Rattle.receiver.specs.Received.{IsBeingClosed};
 ghost use Rattle.selected_receiver.specs.StandIns.{MayStandIn};
 ghost use Rattle.selected_receiver.specs.Whole.{StandsForWhole, IsReceivingWhole, IsAtHand};
 ghost use Rattle.selected_receiver.specs.Taking.{ExpectsOfWhole, TakesWhole, TakesSomeOfWhole, RepliesOfWhole};
 ghost use Rattle.selected_receiver.specs.Taking.{RestartsOfWhole, ClosesOfWhole};
 
 use crate::flow_fault::FlowFault;
+use crate::of_selected::OfSelected;
 use consumer::Consumer;
 use docsis_wire::{Bytes, HEADER_BYTES, HeaderCheck};
 use flow_core::FlowCounts;
@@ -140,10 +141,9 @@ impl<C: HeaderCheck + Drop> SelectedReceiver<C> {
         ensures receiving { IsReceivingWhole C.accepts self.new }
         ensures selected { self.new.selected ≡ self.old.selected }
     {
-        match self
-            .receiver
-            .decide(alloc, flow, FlowDecision::SkipTo(number), out)
-        {
+        let mut told = OfSelected::new(&self.selected, out);
+        let decision = FlowDecision::SkipTo(number);
+        match self.receiver.decide(alloc, flow, decision, &mut told) {
             Ok(_) => Ok(()),
             Err(_) => Err(FlowFault::OutOfMemory),
         }
@@ -167,7 +167,8 @@ impl<C: HeaderCheck + Drop> SelectedReceiver<C> {
         ensures receiving { IsReceivingWhole C.accepts self.new }
         ensures selected { self.new.selected ≡ self.old.selected }
     {
-        match self.receiver.restart(alloc, flow, first, out) {
+        let mut told = OfSelected::new(&self.selected, out);
+        match self.receiver.restart(alloc, flow, first, &mut told) {
             Ok(counts) => Ok(counts),
             Err(RestartError::OutOfMemory) => Err(FlowFault::OutOfMemory),
             Err(_) => Err(FlowFault::NotThere),
@@ -194,7 +195,8 @@ impl<C: HeaderCheck + Drop> SelectedReceiver<C> {
     {
         has_bytes(&input);
         let input = stand_in(&self.receiver, &self.selected, channel, input);
-        match self.receiver.take(alloc, channel, input, out) {
+        let mut told = OfSelected::new(&self.selected, out);
+        match self.receiver.take(alloc, channel, input, &mut told) {
             Ok(reply) => Ok(reply),
             Err(TakeError::NoChannel(_)) => Err(FlowFault::NotThere),
             Err(TakeError::NotTaken(_, _)) => Err(FlowFault::OutOfMemory),
@@ -217,15 +219,22 @@ impl<C: HeaderCheck + Drop> SelectedReceiver<C> {
     }
 
     /// Closes all flows, in the order of their records, and gives what each has left to give. Where
-    /// an allocation failed the close is to be gone on with by [`Closing::go_on`].
-    pub fn close<O: Consumer>(self, alloc: Global, out: &mut O) -> Result<Closed, Closing<C>>
+    /// an allocation failed the close is to be gone on with by [`Closing::go_on`]. The selection is
+    /// given back.
+    pub fn close<O: Consumer>(
+        self,
+        alloc: Global,
+        out: &mut O,
+    ) -> (Selection, Result<Closed, Closing<C>>)
         requires receiving { IsReceivingWhole C.accepts self }
-        ensures closes { IfOk result (λ closed.
+        ensures closes { IfOk result.1 (λ closed.
             ClosesOfWhole C.accepts O.after self out.old closed out.new) }
-        ensures begun { IfErr result (λ closing.
-            BeginsToClose O.after C.accepts self.receiver out.old closing out.new) }
-        ensures closing { IfErr result (λ closing. IsBeingClosed C.accepts closing) }
+        ensures closing { IfErr result.1 (λ closing. IsBeingClosed C.accepts closing) }
+        ensures selected { result.0 ≡ self.selected }
     {
-        self.receiver.close(alloc, out)
+        let SelectedReceiver { receiver, selected } = self;
+        let mut told = OfSelected::new(&selected, out);
+        let closed = receiver.close(alloc, &mut told);
+        (selected, closed)
     }
 }

@@ -2,7 +2,7 @@
 use Rattle.std.specs.Prelude.{◌≡◌, ℕ, Option, List, [], ◌∷◌, ◌++◌, ◌⊎◌, IsTrue, true, Result, MatchResult}
 use Rattle.std.specs.Io.KnownBytes.{Appends}
 use Rattle.captured_flows.specs.Acts.{Act, items_of}
-use Rattle.receiver.specs.Receiving.{StandsFor}
+use Rattle.selected_receiver.specs.Whole.{StandsForWhole}
 use Rattle.capture.specs.PcapngBlocks.{CaptureParts}
 use Rattle.capture.specs.Captures.{HasCaptured, HasCaptureFault, IsWholeCapture}
 use Rattle.capture_map.specs.declared.map.CaptureMap.{CaptureMap}
@@ -23,15 +23,14 @@ use Rattle.frame_engine.specs.declared.joining.Joining.{Joining}
 use Rattle.frame_engine.specs.declared.frame_reading.FrameReading.{FrameReading}
 use Rattle.frame_engine.specs.Settings.{inner_accepts}
 use Rattle.frame_engine.specs.Records.{AreBurstsOf, counted}
-use Rattle.frame_engine.specs.Written.{left_in}
-use Rattle.frame_engine.specs.Joined.{made, check, none_handed_in, file_of, ComesOf, ComesAtEnd, AreFramesSoFar, AreFramesAtEnd, AreAllFrames, IsJoinedSoFar, IsJoinedFile}
+use Rattle.frame_engine.specs.Written.{written_in}
+use Rattle.frame_engine.specs.Joined.{made, check, none_handed_in, seen_of, whole_file, ComesOf, ComesAtEnd, AreFramesSoFar, AreFramesAtEnd, AreAllFrames, IsJoinedSoFar, IsJoinedFile}
 use Rattle.frame_engine.specs.Joining.{AreInFront, IsBehindThem, IsJoinedTill}
 
--- a file's link type, channels and selection stay, and so what isn't written of it yet
+-- a file's link type and channels stay, and so what isn't written of it yet
 pub record KeepsFile (old new : FrameFile) : Type 0 where
   pub link : new.link ≡ old.link
   pub channels : new.channels ≡ old.channels
-  pub selected : new.selected ≡ old.selected
   pub bytes : new.bytes.items ≡ old.bytes.items
 
 -- all that waited came into the file, and nothing waits any more
@@ -42,29 +41,28 @@ pub record PutsCame (timed : TimedFrames) (file : FrameFile) (timed' : TimedFram
   pub none_waits : timed'.waiting.items ≡ []
   pub link : file'.link ≡ file.link
   pub channels : file'.channels ≡ file.channels
-  pub selected : file'.selected ≡ file.selected
-  pub bytes : file'.bytes.items ≡ file.bytes.items ++ left_in file.selected file.link file.channels.items timed.waiting.items
+  pub bytes : file'.bytes.items ≡ file.bytes.items ++ written_in file.link file.channels.items timed.waiting.items
 
 module _ (settings : CaptureSettings) (capture_map : CaptureMap) where
   -- what came of these steps is in the file, of which this was written
   pub record HasFiled (steps : List CaptureStep) (written : List ℕ) (timed : TimedFrames) (file : FrameFile) : Type 0 where
     pub came : List TimedStep
-    pub is_timed : Timed (none_handed_in settings capture_map) steps came timed.lasts.items
+    pub is_timed : Timed (none_handed_in settings capture_map) (seen_of settings capture_map steps) came timed.lasts.items
     pub whole : IsTrue timed.whole
     pub none_waits : timed.waiting.items ≡ []
     pub link : file.link ≡ settings.link
     pub channels : file.channels.items ≡ capture_map.channels.items
-    pub selected : file.selected ≡ settings.selected
-    pub text : file_of settings capture_map came ≡ written ++ file.bytes.items
+    pub text : whole_file settings capture_map came ≡ written ++ file.bytes.items
 
   -- these bursts came, and what came of them is in the file
   pub record HasTaken (bursts : List CapturedBurst) (written : List ℕ) (joining : Joining) : Type 0 where
     pub handed : List Act
     pub steps : List CaptureStep
     pub comes : ComesOf settings capture_map bursts handed (views_in joining.flows) steps
-    pub stands : StandsFor inner_accepts joining.flows.receiver (check settings capture_map) (made settings capture_map) (items_of handed) (given_in steps)
+    pub stands : StandsForWhole inner_accepts joining.flows.receiver (check settings capture_map) (made settings capture_map) (items_of handed) (given_in steps)
     pub map_is : joining.flows.map ≡ capture_map
     pub waits_are : joining.flows.waits ≡ settings.waits
+    pub selected_are : joining.flows.receiver.selected ≡ settings.selected
     pub filed : HasFiled steps written joining.timed joining.file
 
   -- so when nothing more comes
@@ -72,7 +70,8 @@ module _ (settings : CaptureSettings) (capture_map : CaptureMap) where
     pub handed : List Act
     pub steps : List CaptureStep
     pub comes : ComesAtEnd settings capture_map bursts handed steps
-    pub stands : StandsFor inner_accepts joining.flows.receiver (check settings capture_map) (made settings capture_map) (items_of handed) (given_in steps)
+    pub stands : StandsForWhole inner_accepts joining.flows.receiver (check settings capture_map) (made settings capture_map) (items_of handed) (given_in steps)
+    pub selected_are : joining.flows.receiver.selected ≡ settings.selected
     pub filed : HasFiled steps written joining.timed joining.file
 
   -- these records came

@@ -36,18 +36,18 @@ loop-init g c =
     record {
       far = λ settings capture_map begun.
           far-begun g.R.Read.remaining g.W.Write.contents settings capture_map c.args.reader.now c.args.writer.now c.write.new.writer old new begun refl c.write.ensures.link
-          c.write.ensures.channels c.write.ensures.selected wrote.none_left wrote.written wrote.left_flushed wrote.sound;
+          c.write.ensures.channels wrote.none_left wrote.written wrote.left_flushed wrote.sound;
       beside = λ settings capture_map begun none.
           let has = begun c.args.comparing.now none in
           beside-begun g.R.Read.remaining g.W.Write.contents settings capture_map c.args.reader.now c.args.writer.now c.write.new.writer old c.write.new.self c.args.comparing.now has
-          c.write.ensures.link c.write.ensures.channels c.write.ensures.selected wrote.none_left wrote.written;
+          c.write.ensures.link c.write.ensures.channels wrote.none_left wrote.written;
       told = λ settings capture_map begun start came.
           told-begun g.R.Read.remaining g.P.TakeProgress.after settings capture_map c.args.reader.now start _ new c.args.told.now
-          (bytes-written settings capture_map [] [] old new begun refl c.write.ensures.link c.write.ensures.channels c.write.ensures.selected wrote.none_left) c.requires.reader.1 came;
+          (bytes-written settings capture_map [] [] old new begun refl c.write.ensures.link c.write.ensures.channels wrote.none_left) c.requires.reader.1 came;
       shown = λ settings capture_map begun start made.
           shown-begun g.R.ReadBehind.after settings capture_map start (g.R.Read.remaining (inner_of c.args.reader.now)) (g.W.Write.contents (inner_of c.args.writer.now))
           (g.W.Write.contents (inner_of c.write.new.writer)) (inner_of c.args.reader.now) new old.joining.file.bytes.items made
-          (bytes-written settings capture_map [] [] old new begun refl c.write.ensures.link c.write.ensures.channels c.write.ensures.selected wrote.none_left) wrote.written;
+          (bytes-written settings capture_map [] [] old new begun refl c.write.ensures.link c.write.ensures.channels wrote.none_left) wrote.written;
       ready = c.requires.reading;
       empty = wrote.none_left;
       flushed = stays_flushed _ _ c.requires.writer.2 wrote.left_flushed;

@@ -26,7 +26,7 @@ returns-clause-joins g c = λ settings capture_map bytes written has.
     let new : FrameReading = record mid { joining = record mid.joining { file = c.write.new.self } } in (
       mid.joining.file.bytes.items,
       piece-written g.W.Write.contents settings capture_map c.args.self.now mid new c.args.piece.now c.take_piece-taken.result bytes written c.args.writer.now c.write.new.writer
-          c.take_piece-taken.ensures.taken c.take_piece-taken.ensures.fault has refl c.write.ensures.link c.write.ensures.channels c.write.ensures.selected c.in_ok-write.ensures.none_left
+          c.take_piece-taken.ensures.taken c.take_piece-taken.ensures.fault has refl c.write.ensures.link c.write.ensures.channels c.in_ok-write.ensures.none_left
           (c.in_ok-write.ensures.written, c.in_ok-write.ensures.left_flushed, c.in_ok-write.ensures.sound),
     )
 
@@ -37,7 +37,7 @@ returns-clause-compared g c =
     let mid = c.take_piece-taken.new.self in (
       mid.joining.file.bytes.items,
       bytes-written-beside settings capture_map c.write.new.self (bytes ++ c.args.piece.now) written mid c.take_piece-taken.new.comparing (joins settings capture_map bytes written has)
-          c.write.ensures.link c.write.ensures.channels c.write.ensures.selected c.in_ok-write.ensures.none_left,
+          c.write.ensures.link c.write.ensures.channels c.in_ok-write.ensures.none_left,
       (c.in_ok-write.ensures.written, c.in_ok-write.ensures.left_flushed, c.in_ok-write.ensures.sound),
     ))
     c.take_piece-taken.ensures.compared

@@ -1,8 +1,8 @@
 -- The receiver was closed.
 use Rattle.std.proofs.Common.{subst}
 use Rattle.std.proofs.lemmas.Result.{on_ok_weaker}
-use Rattle.receiver.specs.Received.{Closes}
-use Rattle.receiver.specs.declared.receiver.Receiver.{Receiver}
+use Rattle.selected_receiver.specs.Taking.{ClosesOfWhole}
+use Rattle.selected_receiver.specs.declared.selected_receiver.SelectedReceiver.{SelectedReceiver}
 use Rattle.timed_frames.specs.Seen.{HasGiven}
 use Rattle.frame_engine.specs.declared.inner_check.InnerCheck.{InnerCheck}
 use Rattle.frame_engine.specs.Settings.{inner_accepts}
@@ -12,7 +12,7 @@ use Rattle.frame_engine.proofs.joining.Joining.close.Goals as goal
 
 pub returns-in-Ok-clause-closed : goal.returns-in-Ok-clause-closed
 returns-in-Ok-clause-closed c =
-    let closes = subst (λ (receiver : Receiver InnerCheck). Closes HasGiven inner_accepts receiver c.args.self.timed c.in-Ok.closed c.close.new.out) c.into_receiver.ensures c.in-Ok.ensures.closes in
+    let closes = subst (λ (receiver : SelectedReceiver InnerCheck). ClosesOfWhole inner_accepts HasGiven receiver c.args.self.timed c.in-Ok.closed c.close.new.out) c.into_receiver.ensures c.in-Ok.ensures.closes in
     on_ok_weaker c.put_came-put.result
     (λ puts. λ settings capture_map bursts written has.
     ended-closed settings capture_map bursts written c.args.self c.close.new.out c.put_came-put.new.timed c.put_came-put.new.file c.in-Ok.closed has closes puts)
@@ -20,7 +20,7 @@ returns-in-Ok-clause-closed c =
 
 pub returns-in-Ok-clause-compared : goal.returns-in-Ok-clause-compared
 returns-in-Ok-clause-compared c =
-    let closes = subst (λ (receiver : Receiver InnerCheck). Closes HasGiven inner_accepts receiver c.args.self.timed c.in-Ok.closed c.close.new.out) c.into_receiver.ensures c.in-Ok.ensures.closes in
+    let closes = subst (λ (receiver : SelectedReceiver InnerCheck). ClosesOfWhole inner_accepts HasGiven receiver c.args.self.timed c.in-Ok.closed c.close.new.out) c.into_receiver.ensures c.in-Ok.ensures.closes in
     three-ok c.put_came-put.result
     (λ puts takes explains. λ settings capture_map records bursts written has.
     closed-beside settings capture_map records bursts written c.args.self c.close.new.out c.put_came-put.new.timed c.put_came-put.new.file c.in-Ok.closed c.args.comparing.now

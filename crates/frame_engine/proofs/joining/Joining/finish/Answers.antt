@@ -27,7 +27,7 @@ pub returns-clause-written : goal.returns-clause-written
 returns-clause-written g c = λ settings capture_map bursts written has.
     let mid = c.end_waiting.new.self in
     let ended = c.in-Ok.ensures.ended settings capture_map bursts written has in
-    let now = ended-written settings capture_map bursts written mid (record mid { file = c.write.new.self }) ended refl c.write.ensures.link c.write.ensures.channels c.write.ensures.selected c.in-Ok-write.ensures.none_left in
+    let now = ended-written settings capture_map bursts written mid (record mid { file = c.write.new.self }) ended refl c.write.ensures.link c.write.ensures.channels c.in-Ok-write.ensures.none_left in
     ended-then settings capture_map g.W.Write.contents bursts written mid.file.bytes.items c.args.writer.now c.write.new.writer c.write_closed.new.writer c.write_closed.result
     (c.in-Ok-write.ensures.written, c.in-Ok-write.ensures.left_flushed, c.in-Ok-write.ensures.sound)
     (c.write_closed.ensures.written settings capture_map bursts (written ++ mid.file.bytes.items) now)
@@ -40,7 +40,7 @@ returns-clause-compared g c =
     let ended = c.in-Ok.ensures.compared settings capture_map records bursts written has in
     let now =
     ended-written-beside settings capture_map c.write.new.self records bursts written mid c.end_waiting.new.comparing ended c.write.ensures.link c.write.ensures.channels
-    c.write.ensures.selected c.in-Ok-write.ensures.none_left in
+    c.in-Ok-write.ensures.none_left in
     all-then-beside g.W.Write.contents settings capture_map records bursts written mid.file.bytes.items c.args.writer.now c.write.new.writer c.write_closed.new.writer
     c.write_closed.new.comparing (c.in-Ok-write.ensures.written, c.in-Ok-write.ensures.left_flushed, c.in-Ok-write.ensures.sound)
     (closes settings capture_map records bursts (written ++ mid.file.bytes.items) now))

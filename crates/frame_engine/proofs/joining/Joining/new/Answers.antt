@@ -40,6 +40,7 @@ returns-clause-begun c =
         stands = c.in_ok-flows.ensures.stands;
         map_is = c.in_ok-flows.ensures.map;
         waits_are = c.in_ok-flows.ensures.waits;
+        selected_are = c.in_ok-flows.ensures.selected;
         filed = record {
           came = [];
           is_timed =
@@ -49,7 +50,6 @@ returns-clause-begun c =
           none_waits = seen.waiting;
           link = c.in_ok-file.ensures.link;
           channels = c.in_ok-file.ensures.channels ∙ search rules;
-          selected = c.in_ok-file.ensures.selected;
           text = append-nil (header_bytes (file_header settings.link)) ∙ sym c.in_ok-file.ensures.bytes;
         };
       };
