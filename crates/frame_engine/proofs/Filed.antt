@@ -25,20 +25,6 @@ use Rattle.frame_engine.specs.Written.{flow_of_frame, written_of, written_in, st
 use Rattle.frame_engine.specs.Joined.{of_all_flows, none_handed_in, whole_file, file_of, seen_of, IsFileOf}
 use Rattle.frame_engine.specs.Inside.Joins.{PutsCame, HasFiled}
 
--- all is left where all flows are selected
-left-all : (timed : List TimedStep) → steps_left All timed ≡ timed
-left-all [] = refl
-left-all (HandedIn flow burst ∷ timed) = ap (λ (rest : List TimedStep). HandedIn flow burst ∷ rest) (left-all timed)
-left-all (Frame flow burst frame ∷ timed) = ap (λ (rest : List TimedStep). Frame flow burst frame ∷ rest) (left-all timed)
-left-all (Asked burst request ∷ timed) = ap (λ (rest : List TimedStep). Asked burst request ∷ rest) (left-all timed)
-left-all (Replied flow burst_id reply ∷ timed) = ap (λ (rest : List TimedStep). Replied flow burst_id reply ∷ rest) (left-all timed)
-left-all (Ended flow counts ∷ timed) = ap (λ (rest : List TimedStep). Ended flow counts ∷ rest) (left-all timed)
-
-pub file-all : (settings : CaptureSettings) (capture_map : CaptureMap) (timed : List TimedStep)
-    → whole_file settings capture_map timed ≡ file_of (of_all_flows settings) capture_map timed
-file-all settings capture_map timed =
-    ap (λ (left : List TimedStep). header_bytes (file_header settings.link) ++ written_in settings.link capture_map.channels.items left) (sym (left-all timed))
-
 module _ (settings : CaptureSettings) (capture_map : CaptureMap) where
   abbrev written_for : List TimedStep → List ℕ
   written_for timed = written_in settings.link capture_map.channels.items timed

@@ -13,3 +13,4 @@ pub mod EqualEnds
 pub mod Told
 pub mod Counted
 pub mod Shown
+pub mod WholeFile
