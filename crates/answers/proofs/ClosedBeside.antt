@@ -1,12 +1,9 @@
 -- What the whole gives as it is closed, beside what was given for stand-ins.
 use Rattle.std.proofs.Common.{◌≡◌, ℕ, zero, suc, ◌+◌, ◌<◌, ◌≤◌, ◌^◌, inl, inr, Bool, true, false, Option, Some, None, All, List, [], ◌++◌, length, map, get_or, replicate, refl, sym, ap, subst, ◌∙◌, arith}
 use Rattle.std.specs.Prelude.{if◌then◌else◌, slice_get}
-use Rattle.std.specs.List.{range_with_len}
-use Rattle.std.specs.Option.{option_map}
-use Rattle.std.proofs.lemmas.Bool.{cases_eq, cases_lt}
+use Rattle.std.proofs.lemmas.Bool.{cases_lt}
 use Rattle.std.proofs.lemmas.List.Elements.{filter_map-append}
-use Rattle.std.proofs.lemmas.List.FromFn.{length-range_with_len, get_or-range_with_len, length-map-range_with_len}
-use Rattle.std.proofs.lemmas.Option.{same_Some, slice_get_within, slice_get_past, slice_get-get_or, slice_get-map}
+use Rattle.std.proofs.lemmas.Option.{same_Some, slice_get_within, slice_get_past, slice_get-get_or}
 use Rattle.flow_records.specs.Counted.{counted}
 use Rattle.flow_records.specs.declared.record.FlowRecord.{FlowRecord}
 use Rattle.flow_selection.specs.declared.selection.Selection.{Selection}
@@ -20,13 +17,11 @@ use Rattle.flow_core.proofs.Closing.{some-close}
 use Rattle.lane.specs.Report.{requests_of}
 use Rattle.loss_rule.specs.Rule.{Coming}
 use Rattle.consumer.specs.declared.given.Given.{Given}
-use Rattle.consumer.specs.declared.given.Given.TheVariants.{Frame}
 use Rattle.consumer.specs.Given.{frame_of, frames_of, requests_given}
 use Rattle.bonded_flows.specs.ByRule.{GaveByRule}
 use Rattle.bonded_flows.specs.FlowSetup.{FlowSetup}
 use Rattle.bonded_flows.specs.Parts.{FlowInput, comes, Part, last_part, begun_at, GaveInParts}
 use Rattle.bonded_flows.specs.Table.{TableSetup, flow_setup, inputs_at}
-use Rattle.bonded_flows.proofs.TableTurns.{frames-own, frames-others}
 use Rattle.receiver.specs.declared.closing.Closed.{Closed}
 use Rattle.receiver.specs.declared.tally.LaneTally.{LaneTally}
 use Rattle.receiver.specs.Entries.{Entry}
@@ -42,6 +37,7 @@ use Rattle.texts.proofs.GivenOfTrace.{all_come}
 use Rattle.answers.specs.Bytes.{AreBytes}
 use Rattle.answers.specs.Beside.{KeepsCarrying, GivesOfBytes, HappenedSoFar, IsBeside, AreCountedAlike, ClosesWhole}
 use Rattle.answers.proofs.Vectors.{vec_of}
+use Rattle.answers.proofs.FlowsInTurn.{given_by_first, none_above, own_frames, first_have, as_many, have_there}
 use Rattle.answers.proofs.Keeping.{kept-leads}
 use Rattle.answers.proofs.SomeOutcome.{gaps-of_bytes}
 use Rattle.answers.proofs.GrownOutcome.{grown_outcome}
@@ -53,13 +49,13 @@ use Rattle.answers.proofs.GivenBeside.{of_both, kept_of_both, frames_selected, f
 -- ---- the close of one flow
 
 -- What a flow gives more as it is closed.
-record GivesLast (check : List ℕ → Bool) (setup : FlowSetup) (comings : List Coming) (frames : List (List ℕ)) : Type 0 where
-  more : List (List ℕ)
-  counts : FlowCounts
-  gave : GaveByRule check setup comings (frames ++ more) counts
+pub record GivesLast (check : List ℕ → Bool) (setup : FlowSetup) (comings : List Coming) (frames : List (List ℕ)) : Type 0 where
+  pub more : List (List ℕ)
+  pub counts : FlowCounts
+  pub gave : GaveByRule check setup comings (frames ++ more) counts
 
 -- there is something, where what it keeps is of bytes
-gives_last : (check : List ℕ → Bool) (setup : FlowSetup) (comings : List Coming) (frames : List (List ℕ)) → GivesOfBytes check setup comings frames
+pub gives_last : (check : List ℕ → Bool) (setup : FlowSetup) (comings : List Coming) (frames : List (List ℕ)) → GivesOfBytes check setup comings frames
     → GivesLast check setup comings frames
 gives_last check setup comings frames was =
     let flow_record = setup.flow_record in
@@ -134,28 +130,9 @@ module _ (made : TableSetup) (handed : List HandedIn) (given : List Given) (happ
               (same_Some flow_record other (sym here ∙ there)) last.gave;
         }
 
-  -- what the first flows give more, one after another
-  abbrev given_by_first : ℕ → List Given
-  given_by_first zero = []
-  given_by_first (suc k) = given_by_first k ++ map (Frame k) (last_frames k).more
-
-  none_above : (n k : ℕ) → n ≤ k → frames_of k (given_by_first n) ≡ []
-  none_above zero k past = refl
-  none_above (suc n) k past =
-      frames-others n [] [] (given_by_first n) (last_frames n).more k (λ same. omega arith) ∙ none_above n k (omega arith)
-
-  own_frames : (n k : ℕ) → k < n → frames_of k (given_by_first n) ≡ (last_frames k).more
-  own_frames zero k below = absurd (omega arith)
-  own_frames (suc n) k below = elim (cases_eq n k) [
-    | inl same ↦
-        subst (λ (j : ℕ). frames_of j (given_by_first (suc n)) ≡ (last_frames j).more) same
-        (frames-own n [] [] (given_by_first n) (last_frames n).more ∙ ap (λ (t : List (List ℕ)). t ++ (last_frames n).more) (none_above n n (omega arith)))
-    | inr apart ↦ frames-others n [] [] (given_by_first n) (last_frames n).more k apart ∙ own_frames n k (omega arith)
-  ]
-
   -- what all flows give
   abbrev given_by_all : List Given
-  given_by_all = given_by_first (length made.records)
+  given_by_all = given_by_first (λ k. (last_frames k).more) (length made.records)
 
   gave_with_all : (k : ℕ) (flow_record : FlowRecord) → slice_get made.records k ≡ Some flow_record
       → GaveByRule any_header (flow_setup made k flow_record) (came_to made handed k flow_record) (frames_of k (given ++ given_by_all)) (last_frames k).counts
@@ -163,13 +140,13 @@ module _ (made : TableSetup) (handed : List HandedIn) (given : List Given) (happ
       let last = last_frames k in
       subst (λ (frames : List (List ℕ)). GaveByRule any_header (flow_setup made k flow_record) (came_to made handed k flow_record) frames last.counts)
       (sym (filter_map-append (frame_of k) given given_by_all
-      ∙ ap (λ (t : List (List ℕ)). frames_of k given ++ t) (own_frames (length made.records) k (slice_get_within made.records k flow_record there))))
+      ∙ ap (λ (t : List (List ℕ)). frames_of k given ++ t) (own_frames (λ j. (last_frames j).more) (length made.records) k (slice_get_within made.records k flow_record there))))
       (last.gave flow_record there)
 
   none_of_others : (k : ℕ) → length made.records ≤ k → frames_of k (given ++ given_by_all) ≡ []
   none_of_others k past =
       filter_map-append (frame_of k) given given_by_all ∙ ap (λ (t : List (List ℕ)). t ++ frames_of k given_by_all) (was.others k past)
-      ∙ none_above (length made.records) k past
+      ∙ none_above (λ j. (last_frames j).more) (length made.records) k past
 
 -- ---- the close of the whole
 
@@ -208,22 +185,10 @@ module _ (selected : Selection) (made : TableSetup) (others : List HandedIn) (al
   counts_others k is = ap (λ (b : Bool). if b then get_or closed.flows.items k no_counts else (last_frames made handed given happened was.so_far k).counts) is
 
   abbrev all_counts : List FlowCounts
-  all_counts = map counts_at (range_with_len 0 flow_count)
-
-  as_many : length all_counts ≡ flow_count
-  as_many = length-map-range_with_len counts_at 0 flow_count
-
-  counts_there : (k : ℕ) → k < flow_count → slice_get all_counts k ≡ Some (counts_at k)
-  counts_there k below =
-      let indexes = range_with_len 0 flow_count in
-      let size = length-range_with_len 0 flow_count in
-      let inside : k < length indexes = omega arith in
-      let same : 0 + k ≡ k = omega arith in
-      slice_get-map counts_at indexes k ∙ ap (option_map counts_at) (slice_get-get_or indexes k 0 inside)
-      ∙ ap (λ (j : ℕ). Some (counts_at j)) (get_or-range_with_len 0 flow_count k 0 below ∙ same)
+  all_counts = first_have counts_at flow_count
 
   small : length all_counts < 2 ^ 63
-  small = let size = as_many in let count = received.flow_count in let few = closed.flows.small in omega arith
+  small = let size = as_many counts_at flow_count in let count = received.flow_count in let few = closed.flows.small in omega arith
 
   abbrev counted_all : Closed
   counted_all = record { flows = vec_of all_counts small; lanes = closed.lanes }
@@ -235,7 +200,7 @@ module _ (selected : Selection) (made : TableSetup) (others : List HandedIn) (al
   flows_all k flow_record counts there here =
       let setup = flow_setup made k flow_record in
       let within = slice_get_within made.records k flow_record there in
-      let is_it : counts_at k ≡ counts = same_Some (counts_at k) counts (sym (counts_there k within) ∙ here) in
+      let is_it : counts_at k ≡ counts = same_Some (counts_at k) counts (sym (have_there counts_at flow_count k within) ∙ here) in
       subst (λ (c : FlowCounts). GaveAllParts any_header setup (inputs_at k (flow_inputs flow_count handed)) (frames_of k (given ++ more_beside)) c) is_it (by_flag (chosen k) refl within)
     where
       by_flag : (b : Bool) → chosen k ≡ b → k < flow_count
@@ -282,7 +247,7 @@ module _ (selected : Selection) (made : TableSetup) (others : List HandedIn) (al
   received_all : IsReceived any_header made handed (given ++ more_beside) counted_all
   received_all = record {
     answered = was.so_far.answered;
-    flow_count = as_many;
+    flow_count = as_many counts_at flow_count;
     flows = flows_all;
     others = others_all;
     requests = requests_all;
@@ -297,15 +262,15 @@ module _ (selected : Selection) (made : TableSetup) (others : List HandedIn) (al
     | inl below ↦
         let count = received.flow_count in
         let inside : k < length closed.flows.items = omega arith in
-        counts_there k below ∙ ap (λ (c : FlowCounts). Some c) (counts_chosen k is) ∙ sym (slice_get-get_or closed.flows.items k no_counts inside)
+        have_there counts_at flow_count k below ∙ ap (λ (c : FlowCounts). Some c) (counts_chosen k is) ∙ sym (slice_get-get_or closed.flows.items k no_counts inside)
     | inr past ↦
-        let size = as_many in
+        let size = as_many counts_at flow_count in
         let count = received.flow_count in
         slice_get_past all_counts k (omega arith) ∙ sym (slice_get_past closed.flows.items k (omega arith))
   ]
 
   counted_alike : AreCountedAlike selected closed counted_all
-  counted_alike = record { count = as_many ∙ sym received.flow_count; flows = alike_at; lanes = refl }
+  counted_alike = record { count = as_many counts_at flow_count ∙ sym received.flow_count; flows = alike_at; lanes = refl }
 
 -- so the whole is closed beside the stand-ins
 pub closes_beside : (selected : Selection) (made : TableSetup) (others : List HandedIn) (also : List Given) (entries : List Entry) (handed : List HandedIn) (given : List Given) (happened : List Happening)

@@ -30,4 +30,5 @@ pub mod HandedInPlace
 pub mod ToldElsewhere
 pub mod GivenBeside
 pub mod ToldOfWhole
+pub mod FlowsInTurn
 pub mod ClosedBeside

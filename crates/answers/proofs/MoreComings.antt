@@ -21,14 +21,14 @@ module _ (made : TableSetup) (handed : List HandedIn) (one : HandedIn) where
   flow_count = length made.records
 
   -- to no flow, or to one
-  inputs_stay : flow_input_of flow_count one ≡ None → flow_inputs flow_count (handed ++ one ∷ []) ≡ flow_inputs flow_count handed
+  pub inputs_stay : flow_input_of flow_count one ≡ None → flow_inputs flow_count (handed ++ one ∷ []) ≡ flow_inputs flow_count handed
   inputs_stay none =
       filter_map-append (flow_input_of flow_count) handed (one ∷ [])
       ∙ ap (λ (o : Option TableInput). flow_inputs flow_count handed ++ cons_option o []) none ∙ append-nil (flow_inputs flow_count handed)
 
-  inputs_more : (k : ℕ) (coming : Coming) → flow_input_of flow_count one ≡ Some (of_flow k (comes coming))
-      → flow_inputs flow_count (handed ++ one ∷ []) ≡ flow_inputs flow_count handed ++ map (of_flow k) (comes coming ∷ [])
-  inputs_more k coming is =
+  pub inputs_more : (k : ℕ) (input : FlowInput) → flow_input_of flow_count one ≡ Some (of_flow k input)
+      → flow_inputs flow_count (handed ++ one ∷ []) ≡ flow_inputs flow_count handed ++ map (of_flow k) (input ∷ [])
+  inputs_more k input is =
       filter_map-append (flow_input_of flow_count) handed (one ∷ []) ∙ ap (λ (o : Option TableInput). flow_inputs flow_count handed ++ cons_option o []) is
 
   pub came_stays : (k : ℕ) (flow_record : FlowRecord) → flow_input_of flow_count one ≡ None → came_to made (handed ++ one ∷ []) k flow_record ≡ came_to made handed k flow_record
@@ -39,14 +39,14 @@ module _ (made : TableSetup) (handed : List HandedIn) (one : HandedIn) where
     pub came_elsewhere : (other : ℕ) (flow_record : FlowRecord) → k ≢ other → came_to made (handed ++ one ∷ []) other flow_record ≡ came_to made handed other flow_record
     came_elsewhere other flow_record apart =
         let setup = flow_setup made other flow_record in
-        ap (λ (history : List TableInput). (last_part setup (inputs_at other history)).comings) (inputs_more k coming is)
+        ap (λ (history : List TableInput). (last_part setup (inputs_at other history)).comings) (inputs_more k (comes coming) is)
         ∙ ap (λ (inputs : List FlowInput). (last_part setup inputs).comings) (inputs-others k (flow_inputs flow_count handed) (comes coming ∷ []) [] [] other apart)
 
     pub came_here : (flow_record : FlowRecord) → came_to made (handed ++ one ∷ []) k flow_record ≡ came_to made handed k flow_record ++ coming ∷ []
     came_here flow_record =
         let setup = flow_setup made k flow_record in
         let history = flow_inputs flow_count handed in
-        ap (λ (history : List TableInput). (last_part setup (inputs_at k history)).comings) (inputs_more k coming is)
+        ap (λ (history : List TableInput). (last_part setup (inputs_at k history)).comings) (inputs_more k (comes coming) is)
         ∙ ap (λ (inputs : List FlowInput). (last_part setup inputs).comings) (inputs-own k history (comes coming ∷ []) [] [])
         ∙ ap (λ (part : Part). part.comings) (last-comes setup.flow_record.first [] (inputs_at k history) (coming ∷ []))
 

@@ -47,7 +47,10 @@ use Rattle.selected_receiver.specs.declared.of_selected.OfSelected.{OfSelected}
 use Rattle.selected_receiver.specs.Handing.{HandsOn}
 use Rattle.selected_receiver.specs.Taking.{WasSeen, seen_of, TakesWhole, TakesSomeOfWhole, RepliesOfWhole, RestartsOfWhole, ClosesOfWhole}
 use Rattle.selected_receiver.proofs.AlikeWhole.{told-of_whole}
-use Rattle.selected_receiver.proofs.Grown.{whole-nothing, whole-more, whole-input, whole-decision, whole-restart, whole-closed, whole-answer}
+use Rattle.selected_receiver.proofs.AnsweredWhole.{whole-answer}
+use Rattle.selected_receiver.proofs.Grown.{whole-more, whole-input, whole-decision}
+use Rattle.selected_receiver.proofs.RestartedWhole.{whole-restart}
+use Rattle.selected_receiver.proofs.ClosedWhole.{whole-closed}
 
 -- ---- what looks alike
 
@@ -162,8 +165,8 @@ module _ (selected : Selection) (check : List ℕ → Bool) (made : TableSetup) 
         let all = (lane-there accepts receiver' check made (others ++ came channel one ∷ []) (also ++ also_more) stands' channel inside).1 in
         let is = answered-last (lane_of made channel) taken one (subst (AreAnswered (lane_of made channel)) (own_inputs others channel one) all) in
         let its = real-answer answer is in
-        let grown = whole-input selected check made others also handed given whole channel below one (record { input = input; answer = its.real }) its.in_place its.headed its.is_answer bytes
-        also_more stands'.flows.others in
+        let grown = whole-input selected check made others also handed given whole also_more stands'.flows.others channel below one (record { input = input; answer = its.real }) its.in_place its.headed
+        its.is_answer bytes in
         record { its = its; more = grown.0; whole_then = grown.1; seen = grown.2 }
 
 -- ---- what is seen
@@ -229,7 +232,7 @@ module _ {C O : Type 0} (accepts : C → List ℕ → Bool) (after : O → List 
     selected = same;
     stands = λ check made handed given was.
         let stands = takes.stands check made was.others was.also was.stands in
-        let grown = whole-decision old.selected check made was.others was.also handed given was.whole flow decision takes.given_more stands.flows.others in (
+        let grown = whole-decision old.selected check made was.others was.also handed given was.whole takes.given_more stands.flows.others flow decision in (
           grown.0,
           stands-new check made (was.others ++ decided flow decision ∷ []) (was.also ++ takes.given_more) (handed ++ decided flow decision ∷ []) (given ++ grown.0) stands grown.1,
           sym grown.2,

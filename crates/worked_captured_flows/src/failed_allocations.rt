@@ -7,6 +7,7 @@ use consumer::Consumer;
 use docsis_wire::{Bytes, NoCheck};
 use flow_core::FlowCounts;
 use lane::Request;
+use flow_selection::Selection;
 use loss_rule::LossRule;
 use receiver::{Reply, SetupError};
 use std::alloc::Global;
@@ -90,14 +91,14 @@ fn kept_of_all(alloc: Global, log: &mut Log) -> Result<u64, FlowFault> {
     };
     let bursts = bursts_of_each_kind(alloc)?;
     let map = map_of(alloc, Some(5), 16, 1)?;
-    let mut captured = match CapturedFlows::new(alloc, map, LossRule::Decided, waits, NoCheck) {
+    let mut captured = match CapturedFlows::new(alloc, map, LossRule::Decided, waits, Selection::All, NoCheck) {
         Ok(captured) => captured,
         Err(SetupError::OutOfMemory) => return Err(FlowFault::OutOfMemory),
         Err(_) => return Err(FlowFault::NotThere),
     };
     captured.take_all(alloc, bursts, log)?;
     captured.end_waiting(alloc, log)?;
-    match captured.into_receiver().close(alloc, log) {
+    match captured.into_receiver().close(alloc, log).1 {
         Ok(closed) => Ok(closed.flows.first().map_or(0, |counts| counts.kept)),
         Err(_) => Err(FlowFault::OutOfMemory),
     }

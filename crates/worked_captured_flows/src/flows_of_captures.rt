@@ -10,6 +10,7 @@ use consumer::Consumer;
 use docsis_wire::{Bytes, NoCheck};
 use flow_core::FlowCounts;
 use lane::Request;
+use flow_selection::Selection;
 use loss_rule::LossRule;
 use receiver::{Closed, Reply, SegmentVerdict};
 use std::alloc::{AllocError, Global};
@@ -162,7 +163,7 @@ fn bursts_are_passed_over_refused_and_handed_in(rt: HostRuntime) -> Result<(), F
         wait: 20,
     };
     let map = map_of(alloc, Some(5), 16, 1)?;
-    let mut captured = CapturedFlows::new(alloc, map, LossRule::PassedOrSlid, waits, NoCheck)?;
+    let mut captured = CapturedFlows::new(alloc, map, LossRule::PassedOrSlid, waits, Selection::All, NoCheck)?;
     let mut noted = Noted::new(alloc);
     let unknown = captured.take(alloc, burst(alloc, 0, 101, 5, true)?, &mut noted)?;
     assert!(rt; unknown == BurstTaken::UnknownChannel);
@@ -181,7 +182,7 @@ fn bursts_are_passed_over_refused_and_handed_in(rt: HostRuntime) -> Result<(), F
     captured.end_waiting(alloc, &mut noted)?;
     assert!(rt; noted.is_whole);
     assert!(rt; noted.times.as_slice() == [2, 1, 9].as_slice());
-    let closed = captured.into_receiver().close(alloc, &mut noted).ok();
+    let closed = captured.into_receiver().close(alloc, &mut noted).1.ok();
     assert!(rt; closed.is_some_and(|closed| closed.flows.len() == 1 && closed.flows[0].kept == 3));
     Ok(())
 }
@@ -194,7 +195,7 @@ fn clocks_of_all_flows_are_counted(rt: HostRuntime) -> Result<(), Fail> {
         wait: 20,
     };
     let map = map_of(alloc, Some(5), 16, 1)?;
-    let mut captured = CapturedFlows::new(alloc, map, LossRule::PassedOrSlid, waits, NoCheck)?;
+    let mut captured = CapturedFlows::new(alloc, map, LossRule::PassedOrSlid, waits, Selection::All, NoCheck)?;
     let mut noted = Noted::new(alloc);
     assert!(rt; captured.clock_counts() == ClockCounts::none());
     // What waits is handed on where the clock is set back, and not where it goes back by 2.
@@ -214,7 +215,7 @@ fn clocks_of_all_flows_are_counted(rt: HostRuntime) -> Result<(), Fail> {
     captured.end_waiting(alloc, &mut noted)?;
     assert!(rt; captured.clock_counts() == counts);
     assert!(rt; noted.times.len() == 4);
-    let closed = captured.into_receiver().close(alloc, &mut noted).ok();
+    let closed = captured.into_receiver().close(alloc, &mut noted).1.ok();
     assert!(rt; closed.is_some_and(|closed| closed.flows.len() == 1 && closed.flows[0].kept == 4));
     Ok(())
 }
@@ -289,13 +290,13 @@ fn what_is_given_stands_behind_its_burst(rt: HostRuntime) -> Result<(), Fail> {
         wait: 20,
     };
     let map = map_of(alloc, Some(5), 16, 1)?;
-    let mut captured = CapturedFlows::new(alloc, map, LossRule::Decided, waits, NoCheck)?;
+    let mut captured = CapturedFlows::new(alloc, map, LossRule::Decided, waits, Selection::All, NoCheck)?;
     let mut noted = Noted::new(alloc);
     captured.take_all(alloc, bursts_of_each_kind(alloc)?, &mut noted)?;
     captured.end_waiting(alloc, &mut noted)?;
     assert!(rt; noted.is_whole);
     assert!(rt; noted.seen.as_slice() == given_of_each_kind().as_slice());
-    let closed = captured.into_receiver().close(alloc, &mut noted).ok();
+    let closed = captured.into_receiver().close(alloc, &mut noted).1.ok();
     assert!(rt; closed.is_some_and(|closed| closed.flows.len() == 1 && closed.flows[0].kept == 1));
     Ok(())
 }
@@ -308,7 +309,7 @@ fn what_became_of_a_burst_is_replied(rt: HostRuntime) -> Result<(), Fail> {
         wait: 20,
     };
     let map = map_of(alloc, Some(5), 16, 1)?;
-    let mut captured = CapturedFlows::new(alloc, map, LossRule::Decided, waits, NoCheck)?;
+    let mut captured = CapturedFlows::new(alloc, map, LossRule::Decided, waits, Selection::All, NoCheck)?;
     let mut noted = Noted::new(alloc);
     let bursts = vec![in alloc;
         burst_with(alloc, 1, 5, 0, &frame_of(1))?,

@@ -5,6 +5,7 @@ use crate::flows_of_captures::{Noted, burst, map_of};
 use crate::model_cases::CASES;
 use captured_flows::{CapturedBurst, CapturedFlows, Waits};
 use docsis_wire::NoCheck;
+use flow_selection::Selection;
 use loss_rule::LossRule;
 use std::alloc::{AllocError, Global};
 use std::test::Fail;
@@ -57,11 +58,11 @@ fn answer(alloc: Global, case: &[u64]) -> Result<Option<Vec<u64>>, Fail> {
         (*window % 65_536) as u16,
         (*channels % 17) as u8,
     )?;
-    let mut captured = CapturedFlows::new(alloc, map, rule_of(*rule), waits, NoCheck)?;
+    let mut captured = CapturedFlows::new(alloc, map, rule_of(*rule), waits, Selection::All, NoCheck)?;
     let mut noted = Noted::new(alloc);
     captured.take_all(alloc, bursts_of(alloc, came)?, &mut noted)?;
     captured.end_waiting(alloc, &mut noted)?;
-    let Ok(closed) = captured.into_receiver().close(alloc, &mut noted) else {
+    let Ok(closed) = captured.into_receiver().close(alloc, &mut noted).1 else {
         return Ok(None);
     };
     let mut answer = noted.times;
