@@ -17,6 +17,7 @@
 #![tactic(auto)]
 
 mod flow_fault;
+pub mod laws;
 mod selected_receiver;
 
 pub use flow_fault::FlowFault;
