@@ -1,5 +1,5 @@
 -- Alike events of a flow are answered alike and lead to alike fates.
-use Rattle.std.proofs.Common.{◌≡◌, ℕ, ◌+◌, ◌<◌, ◌≤◌, inl, inr, Bool, true, false, IsTrue, IsSome, is_some, Option, Some, None, List, [], ◌∷◌, refl, ap, sym, subst, ◌∙◌, arith}
+use Rattle.std.proofs.Common.{◌≡◌, ℕ, ◌+◌, inl, inr, Bool, true, false, IsTrue, IsSome, is_some, Option, Some, None, List, [], ◌∷◌, refl, ap, sym, subst, ◌∙◌, arith}
 use Rattle.std.specs.List.{AllZip}
 use Rattle.std.specs.FinMap as map
 use Rattle.std.proofs.lemmas.Bool.{cases_eq}
@@ -12,7 +12,7 @@ use Rattle.reorder.specs.declared.verdict.Declared.TheVariants.{NextIsHere, Noth
 use Rattle.reorder.proofs.Items.{get-insert_same, get-insert_other}
 use Rattle.flow_core.specs.declared.event.Applied.{Applied}
 use Rattle.flow_core.specs.declared.event.Applied.TheVariants.{Arrival, Decision, DecisionTo, DecisionSkip}
-use Rattle.flow_core.specs.Fates.{Fates, number_of, IsKept, IsOpen, IsExpected, HasLaterKept}
+use Rattle.flow_core.specs.Fates.{Fates, IsKept, IsOpen, IsExpected, HasLaterKept}
 use Rattle.flow_core.specs.Events.{FlowEvent, arrives, gap, gap_to, skip_to, IsAhead, IsVerdictOn, Keeps, Declares, LosesJust, IsDeclaredTo, IsSkippedTo, Changes, Leads}
 use Rattle.flow_core.proofs.Deciding.{Decided, open_or_settled, IsAhead-once, IsDeclaredTo-decided, IsSkippedTo-decided}
 use Rattle.flow_core.proofs.Outcome.{IsSound, open_and_settled, expected-unique, sound-changes}

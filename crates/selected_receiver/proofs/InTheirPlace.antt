@@ -6,7 +6,6 @@ use Rattle.std.specs.Option.{option_map}
 use Rattle.std.proofs.lemmas.Bool.{cases_eq}
 use Rattle.docsis_wire.specs.declared.segment.Segment.{Segment}
 use Rattle.lane.specs.declared.admitted.Admitted.{Admitted}
-use Rattle.lane.specs.Inputs.{AnsweredInput}
 use Rattle.lane.specs.Report.{admitted_by}
 use Rattle.loss_rule.specs.Rule.{Coming, on_channel, handed_in}
 use Rattle.bonded_flows.specs.Parts.{FlowInput, comes, begins_anew}
