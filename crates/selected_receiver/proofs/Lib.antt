@@ -1,2 +1,15 @@
-mod Settled
-mod WholeTaken
+pub mod Settled
+pub mod Alike
+pub mod InTheirPlace
+pub mod AlikeFates
+pub mod AlikeRulings
+pub mod AlikeWhole
+pub mod Parts
+pub mod MoreInputs
+pub mod Grown
+pub mod AnsweredWhole
+pub mod RestartedWhole
+pub mod ClosedWhole
+pub mod AllGiven
+pub mod NoSegments
+pub mod WholeTaken

@@ -17,6 +17,7 @@
 #![tactic(auto)]
 
 mod flow_fault;
+pub mod laws;
 mod of_selected;
 mod selected_receiver;
 
