@@ -1,5 +1,6 @@
--- A receiver of which nothing is left to be done has given all that is given for what it stands for.
-use Rattle.std.proofs.Common.{◌≡◌, ℕ, ◌<◌, inl, inr, Bool, true, false, Option, Some, None, List, ◌++◌, length, refl, sym, ap, subst, ◌∙◌, arith}
+-- A receiver of which nothing is left to be done has given all that is given for the whole for
+-- which it stands.
+use Rattle.std.proofs.Common.{◌≡◌, ℕ, ◌<◌, Bool, true, false, Option, Some, None, List, length, refl, sym, subst, ◌∙◌, arith}
 use Rattle.std.specs.Prelude.{slice_get}
 use Rattle.std.specs.Global.{Box}
 use Rattle.std.specs.Box.{box_value}
@@ -11,9 +12,8 @@ use Rattle.flow_core.specs.declared.counts.FlowCounts.{FlowCounts}
 use Rattle.flow_core.specs.Counts.{no_counts}
 use Rattle.flow_core.proofs.FlowOutcomes.{drained-outcome}
 use Rattle.loss_rule.specs.Rule.{Coming}
-use Rattle.lane.specs.Report.{requests_of}
 use Rattle.consumer.specs.declared.given.Given.{Given}
-use Rattle.consumer.specs.Given.{frames_of, requests_given}
+use Rattle.consumer.specs.Given.{frames_of}
 use Rattle.bonded_flows.specs.declared.bonded_flow.BondedFlow.{BondedFlow}
 use Rattle.bonded_flows.specs.declared.flow_slot.FlowSlot.{FlowSlot}
 use Rattle.bonded_flows.specs.ByRule.{HasGivenByRule}

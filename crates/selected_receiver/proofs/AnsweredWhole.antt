@@ -1,7 +1,5 @@
 -- What the whole's input is answered, in whose place a stand-in was handed in.
-use Rattle.std.proofs.Common.{◌≡◌, ℕ, Bool, true, Option, Some, None, Ok, Err, List, take, refl, sym, ap, ◌∙◌, take_at}
-use Rattle.std.specs.List.{AllZip}
-use Rattle.docsis_wire.specs.declared.header.SegmentHeader.{SegmentHeader}
+use Rattle.std.proofs.Common.{◌≡◌, ℕ, Bool, true, Some, None, Ok, Err, List, take, refl, sym, ap, ◌∙◌, take_at}
 use Rattle.docsis_wire.specs.declared.segment.Segment.{Segment}
 use Rattle.docsis_wire.specs.Header.{header_bytes}
 use Rattle.docsis_wire.specs.SegmentBytes.{segment_bytes}

@@ -1,5 +1,5 @@
 -- What the whole gives as it is closed, beside what is given for its stand-ins.
-use Rattle.std.proofs.Common.{◌≡◌, ℕ, zero, suc, ◌+◌, ◌<◌, ◌≤◌, ◌^◌, inl, inr, Bool, true, false, Option, Some, None, List, [], ◌++◌, length, map, get_or, refl, sym, ap, subst, ◌∙◌, arith}
+use Rattle.std.proofs.Common.{◌≡◌, ℕ, ◌<◌, ◌≤◌, ◌^◌, inl, inr, Bool, true, false, Option, Some, None, List, [], ◌++◌, length, get_or, refl, sym, ap, subst, ◌∙◌, arith}
 use Rattle.std.specs.Prelude.{if◌then◌else◌, slice_get}
 use Rattle.std.proofs.lemmas.Bool.{cases_lt, false≢true}
 use Rattle.std.proofs.lemmas.List.Elements.{filter_map-append}
@@ -91,8 +91,8 @@ module _ (selected : Selection) (check : List ℕ → Bool) (made : TableSetup) 
   -- ---- the close of all
 
   module _ (rest : List Given) (closed : Closed) (received : IsReceived check made others (also ++ rest) closed) where
-    -- what the whole gives: of the selected flows and of none what is given for the stand-ins, and of
-    -- the other flows what is theirs
+    -- what the whole gives: of the selected flows and of none what is given for the stand-ins, and
+    -- of the other flows what is theirs
     abbrev more_beside : List Given
     more_beside = of_both selected rest own
 

@@ -1,5 +1,5 @@
 -- How the whole grows beside its stand-ins, with one thing more that is handed in.
-use Rattle.std.proofs.Common.{◌≡◌, ◌≢◌, ℕ, ◌<◌, ◌≤◌, inl, inr, Bool, true, false, Option, Some, None, Ok, Err, List, [], ◌∷◌, ◌++◌, length, map, refl, sym, ap, subst, ◌∙◌, arith, append-nil, ltb-true}
+use Rattle.std.proofs.Common.{◌≡◌, ◌≢◌, ℕ, ◌<◌, ◌≤◌, inl, inr, Bool, true, false, Some, None, Ok, Err, List, [], ◌∷◌, ◌++◌, length, map, refl, sym, ap, subst, ◌∙◌, arith, append-nil, ltb-true}
 use Rattle.std.specs.Prelude.{◌&&◌, nat_lt, if◌then◌else◌, slice_get}
 use Rattle.std.specs.Option.{option_map}
 use Rattle.std.specs.List.{AllZip}
@@ -9,13 +9,12 @@ use Rattle.docsis_wire.proofs.StreamPlaces.{element_at, slice_get-at}
 use Rattle.flow_records.specs.declared.record.FlowRecord.{FlowRecord}
 use Rattle.flow_selection.specs.declared.selection.Selection.{Selection}
 use Rattle.flow_selection.specs.Selection.{is_selected}
-use Rattle.lane.specs.declared.admitted.Admitted.{Admitted}
 use Rattle.lane.specs.Inputs.{Answer, AnsweredInput, HasBytes, IsAnswer, AreAnswered}
 use Rattle.lane.specs.Report.{admitted_by}
 use Rattle.loss_rule.specs.Rule.{Coming, on_channel, handed_in, own_event}
 use Rattle.consumer.specs.declared.given.Given.{Given}
 use Rattle.consumer.specs.declared.given.Given.TheVariants.{Frame}
-use Rattle.consumer.specs.Given.{frames_of, requests_given}
+use Rattle.consumer.specs.Given.{frames_of}
 use Rattle.bonded_flows.specs.declared.decision.FlowDecision.{FlowDecision}
 use Rattle.bonded_flows.specs.declared.decision.FlowDecision.TheVariants.{Gap, GapTo, SkipTo}
 use Rattle.bonded_flows.specs.ByRule.{decision_event, is_in_range}
@@ -198,7 +197,7 @@ module _ (selected : Selection) (check : List ℕ → Bool) (made : TableSetup) 
 
       -- ---- a decision
 
-      -- a decision about a flow is handed in, of which nothing is known but that it is the same
+      -- the same decision about a flow is handed in
       pub whole-decision : (flow : ℕ) (decision : FlowDecision)
           → (more : List Given)
           × IsWhole (is_selected selected) check made (others ++ decided flow decision ∷ []) (also ++ also_more) (handed ++ decided flow decision ∷ []) (given ++ more)

@@ -6,7 +6,7 @@ use Rattle.std.proofs.lemmas.List.Elements.{filter_map-append}
 use Rattle.lane.specs.Inputs.{AnsweredInput, IsAnswer, AreAnswered}
 use Rattle.lane.proofs.LaneTaking.{answered-more}
 use Rattle.bonded_flows.specs.Parts.{FlowInput}
-use Rattle.bonded_flows.specs.Table.{TableSetup, TableInput, inputs_at}
+use Rattle.bonded_flows.specs.Table.{TableSetup, inputs_at}
 use Rattle.bonded_flows.proofs.TableTurns.{of_flow, inputs-own, inputs-others}
 use Rattle.receiver.specs.HandedIn.{HandedIn, came, came_on, answered_on, flow_input_of, flow_inputs, lane_of}
 use Rattle.receiver.proofs.AnsweredInputs.{one_if, came-on}

@@ -1,5 +1,6 @@
 -- A flow to which no segment came gives nothing.
-use Rattle.std.proofs.Common.{◌≡◌, ◌≢◌, ℕ, zero, suc, ◌==◌, inl, inr, Bool, true, false, Option, Some, None, List, [], ◌∷◌, ◌++◌, replicate, refl, sym, ap, subst, ◌∙◌, eqb-true}
+use Rattle.std.proofs.Common.{◌≡◌, ◌≢◌, ℕ, zero, suc, ◌==◌, inl, inr, Bool, true, false, Option, Some, None, List, [], ◌∷◌, ◌++◌, replicate, refl, sym, ap, subst, ◌∙◌}
+use Rattle.std.proofs.lemmas.Bool.{eqb-true}
 use Rattle.std.specs.Prelude.{◌&&◌, nat_lt, if◌then◌else◌}
 use Rattle.std.specs.List.{AllByRecursion, cons_option}
 use Rattle.std.specs.Option.{option_map}
@@ -130,17 +131,17 @@ module _ (k n : ℕ) where
   decision-none (SkipTo number) = tt
 
   decided-none : (flow : ℕ) (decision : FlowDecision) (b : Bool) → IsNoneIn (if b then Some (decides_of flow decision) else None)
-  decided-none flow decision true is = decision-none decision
+  decided-none flow decision true = λ is. decision-none decision
   decided-none flow decision false = tt
 
   came-none : (channel : ℕ) (admitted : Option Admitted) → ((one : Admitted) → admitted ≡ Some one → one.flow ≢ k) → IsNoneIn (option_map (arrives_on channel) admitted)
   came-none channel None none = tt
-  came-none channel (Some one) none is = absurd (none one refl is)
+  came-none channel (Some one) none = λ is. absurd (none one refl is)
 
   input-none : (one : HandedIn) → IsNoneOf one → IsNoneIn (flow_input_of n one)
   input-none (came channel one) none = came-none channel (admitted_by one.answer) none
   input-none (decided flow decision) none = decided-none flow decision (nat_lt flow n && is_in_range decision)
-  input-none (restarted flow first) none is = tt
+  input-none (restarted flow first) none = λ is. tt
 
   -- of one input, and of others behind
   picked-none : (input : TableInput) (rest : List FlowInput) (b : Bool) → input.flow == k ≡ b → IsNoneIn (Some input) → AllByRecursion IsNoSegment rest

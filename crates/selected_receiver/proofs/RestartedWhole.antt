@@ -1,5 +1,5 @@
 -- How the whole grows beside its stand-ins as a flow begins anew.
-use Rattle.std.proofs.Common.{◌≡◌, ◌≢◌, ℕ, ◌<◌, ◌≤◌, inl, inr, Bool, true, false, Option, Some, None, List, [], ◌∷◌, ◌++◌, length, map, refl, sym, ap, subst, ◌∙◌, append-nil, arith}
+use Rattle.std.proofs.Common.{◌≡◌, ℕ, ◌≤◌, inl, inr, Bool, true, false, Option, Some, None, List, [], ◌∷◌, ◌++◌, length, map, refl, sym, ap, subst, ◌∙◌, append-nil, arith}
 use Rattle.std.specs.Prelude.{slice_get}
 use Rattle.std.proofs.lemmas.Bool.{cases_eq, false≢true}
 use Rattle.std.proofs.lemmas.Option.{same_Some, slice_get_within}
@@ -179,15 +179,15 @@ module _ (selected : Selection) (check : List ℕ → Bool) (made : TableSetup) 
             none_past = λ _ past. let within = slice_get_within made.records flow flow_record here in absurd (omega arith);
           }),
           λ other at.
-          subst (λ (r : FlowRecord). GaveSince (λ own. GaveByRule check (begun_with made flow r (flow_inputs flow_count handed)) (came_since made flow r (flow_inputs flow_count handed)) (own ++ its.0) its.1)
-          (frames_of flow given))
-          (same_Some flow_record other (sym here ∙ at))
-          (record { earlier = before.earlier; own = before.own; all = before.all; is_so = its.2 }),
+              subst (λ (r : FlowRecord). GaveSince (λ own. GaveByRule check (begun_with made flow r (flow_inputs flow_count handed)) (came_since made flow r (flow_inputs flow_count handed)) (own ++ its.0) its.1)
+              (frames_of flow given))
+              (same_Some flow_record other (sym here ∙ at))
+              (record { earlier = before.earlier; own = before.own; all = before.all; is_so = its.2 }),
           λ is. absurd (false≢true (sym left ∙ is)),
         )
 
-  -- a flow begins anew, and the same flow of the stand-ins did: of a selected flow the same is given
-  -- and counted
+  -- a flow begins anew, and the same flow of the stand-ins did: of a selected flow the same is
+  -- given and counted
   pub whole-restart : ClosesFlow check made flow others also theirs counts
       → (frames : List (List ℕ)) × (counted : FlowCounts)
       × IsWhole (is_selected selected) check made (others ++ restarted flow first ∷ []) (also ++ map (Frame flow) theirs) (handed ++ restarted flow first ∷ []) (given ++ map (Frame flow) frames)

@@ -1,5 +1,5 @@
 -- What a receiver takes of stand-ins it takes of the whole.
-use Rattle.std.proofs.Common.{◌≡◌, ℕ, ◌<◌, ◌≤◌, ◌⊎◌, inl, inr, Bool, true, false, Option, Some, None, Result, Ok, Err, List, [], ◌∷◌, ◌++◌, length, map, refl, sym, ap, subst, ◌∙◌, append-nil}
+use Rattle.std.proofs.Common.{◌≡◌, ℕ, ◌<◌, ◌≤◌, ◌⊎◌, inl, inr, Bool, true, false, Option, Some, None, Result, Ok, Err, List, [], ◌∷◌, ◌++◌, length, map, refl, sym, ap, subst, ◌∙◌, append-nil, arith}
 use Rattle.std.specs.Prelude.{filter, slice_get, if◌then◌else◌, IfSome}
 use Rattle.answers.specs.Beside.{is_told_if_given}
 use Rattle.std.specs.List.{AllZip}
@@ -69,12 +69,12 @@ counts_same : (one : AnsweredInput) → CountsAs one one
 counts_same one = record { grants = λ number sid bytes is. is; granted_by = λ number sid bytes is. is; number = refl; spends = refl; accepts = refl }
 
 -- what is admitted in place of something is of its flow
-same_flow : {chosen : ℕ → Bool} (one other : Option Admitted) → AreAdmittedFor chosen one other
+same_flow : (chosen : ℕ → Bool) (one other : Option Admitted) → AreAdmittedFor chosen one other
     → option_map (λ (a : Admitted). a.flow) other ≡ option_map (λ (a : Admitted). a.flow) one
-same_flow None None are = refl
-same_flow None (Some other) are = absurd are
-same_flow (Some one) None are = absurd are
-same_flow (Some one) (Some other) are = ap Some are.flow
+same_flow chosen None None are = refl
+same_flow chosen None (Some other) are = absurd are
+same_flow chosen (Some one) None are = absurd are
+same_flow chosen (Some one) (Some other) are = ap Some are.flow
 
 -- what came on a channel with one input more
 own_inputs : (handed : List HandedIn) (channel : ℕ) (one : AnsweredInput) → answered_on channel (handed ++ came channel one ∷ []) ≡ answered_on channel handed ++ one ∷ []
@@ -117,7 +117,7 @@ module _ (selected : Selection) (check : List ℕ → Bool) (made : TableSetup) 
         let found = some_answer (λ k. false) (lane_of made channel) taken taken (zip_same CountsAs counts_same taken) other answer input is
         (record { looks_like = looks_back input other looks; same = λ a gives of_selected. absurd (false≢true of_selected) }) in
         let its = would check made others also found.0 stands within found.1 in
-        let same = same_flow (admitted_by answer) (admitted_by found.0) found.2.admitted in
+        let same = same_flow (λ k. false) (admitted_by answer) (admitted_by found.0) found.2.admitted in
         subst (λ (f : Option ℕ). IfSome f (λ k. chosen k ≡ false)) (sym its ∙ same ∙ ap (option_map (λ (a : Admitted). a.flow)) by) none
 
     looks_real : LooksLike other input
@@ -200,7 +200,7 @@ same_seen selected flow frames theirs same = by_flag (is_selected selected flow)
 
 -- ---- what is taken of stand-ins is taken of the whole
 
-module _ {C O : Type 0} (accepts : C → List ℕ → Bool) (after : O → List Given → O → Type 0) (old new : SelectedReceiver C) (w w' : OfSelected O) (same : new.selected ≡ old.selected) (of_old : w.selected ≡ old.selected) where
+module _ {C O : Type 0} (accepts : C → List ℕ → Bool) (after : O → List Given → O → Type 0) (old new : SelectedReceiver C) (w w' : OfSelected O) (same : new.selected ≡ old.selected) (of_old : w.selected.now ≡ old.selected) where
   abbrev seen_in : List Given → List Given
   seen_in given = seen_of old.selected given
 
@@ -270,12 +270,13 @@ module _ {C O : Type 0} (accepts : C → List ℕ → Bool) (after : O → List 
   }
 
   -- so of something
-  some-of : (more : List HandedIn) → TakesWhole accepts after old w.out.now more new w'.out.now → TakesSomeOfWhole accepts after old w.out.now new w'.out.now
+  pub some-of : (more : List HandedIn) → TakesWhole accepts after old w.out.now more new w'.out.now → TakesSomeOfWhole accepts after old w.out.now new w'.out.now
   some-of more takes = record {
     seen = takes.seen;
     was_seen = takes.was_seen;
     selected = takes.selected;
-    stands = λ check made handed given was. (more, takes.stands check made handed given was);
+    stands = λ check made handed given was.
+        let stands = takes.stands check made handed given was in (more, stands.0, stands.1, stands.2);
   }
 
   -- a decision that wasn't taken, or not to the end
@@ -284,6 +285,21 @@ module _ {C O : Type 0} (accepts : C → List ℕ → Bool) (after : O → List 
       → TakesSomeOfWhole accepts after old w.out.now new w'.out.now
   some-decided flow decision (decide_fault.NotTaken why) leaves = takes-nothing leaves
   some-decided flow decision decide_fault.Unfinished leaves = some-of (decided flow decision ∷ []) (takes-decided flow decision leaves)
+
+  -- the consumer that it borrows stays the same one
+  pub same-handed : (more : List HandedIn) → TakesMore (HandsOn after) accepts old.receiver w more new.receiver w' → w'.out.ghost_name ≡ w.out.ghost_name
+  same-handed more takes = (all-given takes.given_more takes.was_given).same
+
+  pub some-handed : (decision : HandedIn) (fault : DecideFault)
+      → LeavesOf fault (TakesMore (HandsOn after) accepts old.receiver w [] new.receiver w') (TakesMore (HandsOn after) accepts old.receiver w (decision ∷ []) new.receiver w')
+      → w'.out.ghost_name ≡ w.out.ghost_name
+  some-handed decision (decide_fault.NotTaken why) leaves = same-handed [] leaves
+  some-handed decision decide_fault.Unfinished leaves = same-handed (decision ∷ []) leaves
+
+  pub failed-handed : (channel : ℕ) (other : Input) (error : TakeError) → Fails (HandsOn after) accepts old.receiver w channel other error new.receiver w' → w'.out.ghost_name ≡ w.out.ghost_name
+  failed-handed channel other (take_error.NoChannel back) fails = ap (λ (o : OfSelected O). o.out.ghost_name) fails.3
+  failed-handed channel other (take_error.NotTaken back why) fails = same-handed [] fails.3
+  failed-handed channel other (take_error.Unfinished flow) fails = same-handed _ fails.takes
 
   -- a flow that begins anew
   pub takes-restart : (flow first : ℕ) (counts : FlowCounts) → Restarts (HandsOn after) accepts old.receiver w flow first counts new.receiver w'
@@ -304,6 +320,28 @@ module _ {C O : Type 0} (accepts : C → List ℕ → Bool) (after : O → List 
           same_seen old.selected flow grown.0 restarts.more (λ of_selected. (grown.4 of_selected).0),
           λ of_selected. (grown.4 of_selected).1,
         );
+  }
+
+  -- so it takes something
+  pub some-restarted : (flow first : ℕ) (counts : FlowCounts) → RestartsOfWhole accepts after old w.out.now flow first counts new w'.out.now
+      → TakesSomeOfWhole accepts after old w.out.now new w'.out.now
+  some-restarted flow first counts restarts = record {
+    seen = restarts.seen;
+    was_seen = restarts.was_seen;
+    selected = restarts.selected;
+    stands = λ check made handed given was.
+        let stands = restarts.stands check made handed given was in (restarted flow first ∷ [], map (Frame flow) stands.0, stands.2, stands.4);
+  }
+
+  pub some-replied : (channel : ℕ) (input : Input) (reply : Reply) → RepliesOfWhole accepts after old w.out.now channel input reply new w'.out.now
+      → TakesSomeOfWhole accepts after old w.out.now new w'.out.now
+  some-replied channel input reply replies = record {
+    seen = replies.seen;
+    was_seen = replies.was_seen;
+    selected = replies.selected;
+    stands = λ check made handed given was.
+        let stands = replies.stands check made handed given was in
+        (came channel (record { input = input; answer = stands.0 }) ∷ [], stands.3, stands.4, stands.5);
   }
 
   module _ (channel : ℕ) (input other : Input) (may : MayStandIn accepts (is_selected old.selected) old.receiver channel input other) (bytes : HasBytes input) where

@@ -8,6 +8,6 @@ use Rattle.selected_receiver.specs.declared.of_selected.OfSelected.{OfSelected}
 -- none, was given to the consumer that it borrows.
 pub record HandsOn {O : Type 0} (after : O → List Given → O → Type 0) (start : OfSelected O) (given : List Given) (end : OfSelected O) : Type 0 where
   pub same : end.out.ghost_name ≡ start.out.ghost_name
-  pub selected : end.selected ≡ start.selected
+  pub selected : end.selected.now ≡ start.selected.now
   pub handed_on : (first : O) (before : List Given) → after first before start.out.now
-      → after first (before ++ filter (is_told_if_given start.selected) given) end.out.now
+      → after first (before ++ filter (is_told_if_given start.selected.now) given) end.out.now

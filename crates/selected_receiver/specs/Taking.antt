@@ -23,6 +23,10 @@ use Rattle.selected_receiver.specs.Whole.{StandsForWhole}
 abbrev pub seen_of : Selection → List Given → List Given
 seen_of selected given = filter (is_told_if_given selected) given
 
+-- what was given to a consumer more
+abbrev pub WasSeen : {O : Type 0} → (O → List Given → O → Type 0) → O → List Given → O → Type 0
+WasSeen {O} after out seen out' = (start : O) (given : List Given) → after start given out → after start (given ++ seen) out'
+
 module _ {C : Type 0} (accepts : C → List ℕ → Bool) where
   -- whatever was handed in, the flow expects this number
   abbrev pub ExpectsOfWhole : SelectedReceiver C → ℕ → ℕ → Type 0
@@ -31,15 +35,11 @@ module _ {C : Type 0} (accepts : C → List ℕ → Bool) where
       → StandsForWhole accepts receiver check made handed given → slice_get made.records flow ≡ Some flow_record → IsNumberExpected made flow flow_record handed number
 
   module _ {O : Type 0} (after : O → List Given → O → Type 0) where
-    -- what was given to the consumer more
-    abbrev pub WasSeen : O → List Given → O → Type 0
-    WasSeen out seen out' = (start : O) (given : List Given) → after start given out → after start (given ++ seen) out'
-
     -- **Whatever was handed in, this was handed in besides**, and the consumer was given what is
     -- seen of what was given more.
     pub record TakesWhole (receiver : SelectedReceiver C) (out : O) (more : List HandedIn) (receiver' : SelectedReceiver C) (out' : O) : Type 0 where
       pub seen : List Given
-      pub was_seen : WasSeen out seen out'
+      pub was_seen : WasSeen after out seen out'
       pub selected : receiver'.selected ≡ receiver.selected
       pub stands : (check : List ℕ → Bool) (made : TableSetup) (handed : List HandedIn) (given : List Given) → StandsForWhole accepts receiver check made handed given
           → (given_more : List Given) × StandsForWhole accepts receiver' check made (handed ++ more) (given ++ given_more) × (seen ≡ seen_of receiver.selected given_more)
@@ -47,7 +47,7 @@ module _ {C : Type 0} (accepts : C → List ℕ → Bool) where
     -- where something fails on the way: so of something
     pub record TakesSomeOfWhole (receiver : SelectedReceiver C) (out : O) (receiver' : SelectedReceiver C) (out' : O) : Type 0 where
       pub seen : List Given
-      pub was_seen : WasSeen out seen out'
+      pub was_seen : WasSeen after out seen out'
       pub selected : receiver'.selected ≡ receiver.selected
       pub stands : (check : List ℕ → Bool) (made : TableSetup) (handed : List HandedIn) (given : List Given) → StandsForWhole accepts receiver check made handed given
           → (more : List HandedIn) × (given_more : List Given)
@@ -57,7 +57,7 @@ module _ {C : Type 0} (accepts : C → List ℕ → Bool) where
     -- what is seen of what was given more.
     pub record RepliesOfWhole (receiver : SelectedReceiver C) (out : O) (channel : ℕ) (input : Input) (reply : Reply) (receiver' : SelectedReceiver C) (out' : O) : Type 0 where
       pub seen : List Given
-      pub was_seen : WasSeen out seen out'
+      pub was_seen : WasSeen after out seen out'
       pub selected : receiver'.selected ≡ receiver.selected
       pub stands : (check : List ℕ → Bool) (made : TableSetup) (handed : List HandedIn) (given : List Given) → StandsForWhole accepts receiver check made handed given
           → (answer : Answer) × Says reply answer × IsToldRightly made handed channel answer reply × (given_more : List Given)
@@ -68,7 +68,7 @@ module _ {C : Type 0} (accepts : C → List ℕ → Bool) where
     -- what the flow gave, and of a selected flow these are the counts.
     pub record RestartsOfWhole (receiver : SelectedReceiver C) (out : O) (flow first : ℕ) (counts : FlowCounts) (receiver' : SelectedReceiver C) (out' : O) : Type 0 where
       pub seen : List Given
-      pub was_seen : WasSeen out seen out'
+      pub was_seen : WasSeen after out seen out'
       pub selected : receiver'.selected ≡ receiver.selected
       pub stands : (check : List ℕ → Bool) (made : TableSetup) (handed : List HandedIn) (given : List Given) → StandsForWhole accepts receiver check made handed given
           → (frames : List (List ℕ)) × (counted : FlowCounts)
@@ -81,7 +81,7 @@ module _ {C : Type 0} (accepts : C → List ℕ → Bool) where
     -- the consumer was given what is seen of it. The counts are those of the selected flows.
     pub record ClosesOfWhole (receiver : SelectedReceiver C) (out : O) (closed : Closed) (out' : O) : Type 0 where
       pub seen : List Given
-      pub was_seen : WasSeen out seen out'
+      pub was_seen : WasSeen after out seen out'
       pub received : (check : List ℕ → Bool) (made : TableSetup) (handed : List HandedIn) (given : List Given) → StandsForWhole accepts receiver check made handed given
           → (given_more : List Given) × (counted : Closed) × IsReceived check made handed (given ++ given_more) counted
           × (seen ≡ seen_of receiver.selected given_more) × AreCountedAlike receiver.selected closed counted

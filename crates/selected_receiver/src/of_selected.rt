@@ -18,7 +18,7 @@ impl<'a, O: Consumer> OfSelected<'a, O> {
     pub(crate) fn new(selected: &'a Selection, out: &'a mut O) -> OfSelected<'a, O>
         ensures same_reference { result.out.ghost_name ≡ out.entry.ghost_name }
         ensures same { result.out.now ≡ out.old }
-        ensures selected { result.selected ≡ selected.now }
+        ensures selected { result.selected.now ≡ selected.now }
     {
         OfSelected { selected, out }
     }

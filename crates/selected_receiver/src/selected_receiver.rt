@@ -234,7 +234,9 @@ impl<C: HeaderCheck + Drop> SelectedReceiver<C> {
     {
         let SelectedReceiver { receiver, selected } = self;
         let mut told = OfSelected::new(&selected, out);
-        let closed = receiver.close(alloc, &mut told);
-        (selected, closed)
+        match receiver.close(alloc, &mut told) {
+            Ok(closed) => (selected, Ok(closed)),
+            Err(closing) => (selected, Err(closing)),
+        }
     }
 }
