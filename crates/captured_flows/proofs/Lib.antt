@@ -1,7 +1,8 @@
 pub mod Seen
+pub mod Shown
+pub mod Replied
 pub mod Taken
 pub mod Broken
-pub mod Settled
 pub mod LetGo
 pub mod HandedIn
 pub mod HandedOnTo
@@ -9,3 +10,4 @@ pub mod Waited
 pub mod SidTable
 pub mod Together
 pub mod MapFaults
+pub mod Followed

@@ -33,25 +33,25 @@ pub given-both : (given : List Given) (first later : List CaptureStep) → (give
 given-both given first later =
     append_assoc given (given_in first) (given_in later) ∙ ap (λ (g : List Given). given ++ g) (sym (given-append first later))
 
-module _ {C : Type 0} (accepts : C → List ℕ → Bool) (check : List ℕ → Bool) (made : TableSetup) where
+module _ (check : List ℕ → Bool) (made : TableSetup) where
   -- one move alone
-  pub plays-one : (handed more : List Act) (given : List Given) (steps : List CaptureStep) → IsMove accepts check made handed given more steps
-      → Plays accepts check made handed given more steps
+  pub plays-one : (handed more : List Act) (given : List Given) (steps : List CaptureStep) → IsMove check made handed given more steps
+      → Plays check made handed given more steps
   plays-one handed more given steps move =
       one_move nothing
-      (subst (λ (h : List Act). IsMove accepts check made h (given ++ []) more steps) (sym (append-nil handed))
-      (subst (λ (g : List Given). IsMove accepts check made handed g more steps) (sym (append-nil given)) move))
+      (subst (λ (h : List Act). IsMove check made h (given ++ []) more steps) (sym (append-nil handed))
+      (subst (λ (g : List Given). IsMove check made handed g more steps) (sym (append-nil given)) move))
 
   -- moves, and then others
   pub plays-then : (handed first : List Act) (given : List Given) (before : List CaptureStep) {later : List Act} {behind : List CaptureStep}
-      → Plays accepts check made handed given first before → Plays accepts check made (handed ++ first) (given ++ given_in before) later behind
-      → Plays accepts check made handed given (first ++ later) (before ++ behind)
+      → Plays check made handed given first before → Plays check made (handed ++ first) (given ++ given_in before) later behind
+      → Plays check made handed given (first ++ later) (before ++ behind)
   plays-then handed first given before plays nothing =
-      subst (λ (m : List Act). Plays accepts check made handed given m (before ++ [])) (sym (append-nil first))
-      (subst (λ (s : List CaptureStep). Plays accepts check made handed given first s) (sym (append-nil before)) plays)
+      subst (λ (m : List Act). Plays check made handed given m (before ++ [])) (sym (append-nil first))
+      (subst (λ (s : List CaptureStep). Plays check made handed given first s) (sym (append-nil before)) plays)
   plays-then handed first given before plays (one_move {more = more} {later = later} {steps = steps} {behind = behind} others move) =
-      subst (λ (m : List Act). Plays accepts check made handed given m (before ++ (steps ++ behind))) (append_assoc first more later)
-      (subst (λ (s : List CaptureStep). Plays accepts check made handed given ((first ++ more) ++ later) s) (append_assoc before steps behind)
+      subst (λ (m : List Act). Plays check made handed given m (before ++ (steps ++ behind))) (append_assoc first more later)
+      (subst (λ (s : List CaptureStep). Plays check made handed given ((first ++ more) ++ later) s) (append_assoc before steps behind)
       (one_move (plays-then handed first given before plays others)
-      (subst (λ (h : List Act). IsMove accepts check made h (given ++ given_in (before ++ steps)) later behind) (append_assoc handed first more)
-      (subst (λ (g : List Given). IsMove accepts check made ((handed ++ first) ++ more) g later behind) (given-both given before steps) move))))
+      (subst (λ (h : List Act). IsMove check made h (given ++ given_in (before ++ steps)) later behind) (append_assoc handed first more)
+      (subst (λ (g : List Given). IsMove check made ((handed ++ first) ++ more) g later behind) (given-both given before steps) move))))

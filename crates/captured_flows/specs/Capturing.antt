@@ -10,7 +10,7 @@ use Rattle.captured_flows.specs.declared.captured_flows.CapturedFlows.{CapturedF
 use Rattle.captured_flows.specs.Flow.{FlowView}
 use Rattle.captured_flows.specs.SidFlows.{HasFlowsOf}
 use Rattle.captured_flows.specs.Captures.{SpellsBurst, SpellsBursts, EndsAll}
-use Rattle.captured_flows.specs.AtHand.{IsAtHand}
+use Rattle.selected_receiver.specs.Whole.{IsAtHand}
 use Rattle.captured_flows.specs.Seen.{flow_seen}
 use Rattle.captured_flows.specs.Together.{HaveWaits, views_of}
 

@@ -2,7 +2,9 @@ pub mod Acts
 pub mod Flow
 pub mod Seen
 pub mod Steps
-pub mod AtHand
+pub mod Shown
+pub mod Followed
+pub mod Replied
 pub mod Plays
 pub mod Taking
 pub mod Sound

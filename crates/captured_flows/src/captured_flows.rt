@@ -1,7 +1,6 @@
 //! The bursts of a capture with a map, handed in to a receiver.
-ghost use Rattle.std.specs.Prelude.{◌≡◌, ◌↔◌, ◌≤◌, [], ℕ, Bool, List, Some, None, IfSome, IfOk, IfErr, OnErr, map, length, slice_get};
-ghost use Rattle.receiver.specs.Receiving.{IsReceiving};
-ghost use Rattle.captured_flows.specs.AtHand.{IsAtHand};
+ghost use Rattle.std.specs.Prelude.{◌≡◌, ◌↔◌, ◌≤◌, [], ℕ, Bool, List, true, Some, None, IfSome, IfOk, IfErr, OnErr, map, length, slice_get};
+ghost use Rattle.selected_receiver.specs.Whole.{IsReceivingWhole, IsAtHand};
 ghost use Rattle.captured_flows.specs.Taking.{TakesBy, BreaksOff};
 ghost use Rattle.captured_flows.specs.Sound.{IsUnsound};
 ghost use Rattle.captured_flows.specs.Captures.{IsRefused, EndsAll};
@@ -11,25 +10,26 @@ use crate::burst_taken::BurstTaken;
 use crate::capture_consumer::CaptureConsumer;
 use crate::captured_burst::{CapturedBurst, granted_to, sound};
 use crate::flow::CapturedFlow;
-use crate::flow_fault::FlowFault;
 use crate::setup::{flows_of, receiver_of, setup_of};
 use crate::sids::{SidFlows, channel_of};
 use crate::sound_burst::SoundBurst;
-use crate::taking::{take, take_grant};
+use crate::taking::{take_grant, take_unadmitted};
 use crate::waits::Waits;
 use capture_map::CaptureMap;
 use capture_rules::{Arrival, ClockCounts};
 use docsis_wire::HeaderCheck;
 use flow_core::FlowCounts;
+use flow_selection::Selection;
 use lane::Input;
 use loss_rule::LossRule;
-use receiver::{Receiver, Reply, SetupError};
+use receiver::{Reply, SetupError};
+use selected_receiver::{FlowFault, SelectedReceiver};
 use std::alloc::Global;
 
 /// A burst that its lane refuses is handed in at once.
 fn refuse<C: HeaderCheck + Drop, O: CaptureConsumer>(
     alloc: Global,
-    receiver: &mut Receiver<C>,
+    receiver: &mut SelectedReceiver<C>,
     channel: usize,
     burst: CapturedBurst,
     out: &mut O,
@@ -41,7 +41,7 @@ fn refuse<C: HeaderCheck + Drop, O: CaptureConsumer>(
     ensures at_hand { IfOk result (λ _. IsAtHand C.accepts receiver.new) }
     ensures breaks { OnErr result (BreaksOff C.accepts O.saw receiver.old out.old
         receiver.new out.new) }
-    ensures receiving { IsReceiving C.accepts receiver.new }
+    ensures receiving { IsReceivingWhole C.accepts receiver.new }
 {
     let granted = granted_to(&burst);
     take_grant(alloc, receiver, channel, burst.sid, granted, out)?;
@@ -50,14 +50,14 @@ fn refuse<C: HeaderCheck + Drop, O: CaptureConsumer>(
         hcs_ok: burst.check,
         bytes: burst.bytes,
     };
-    let reply = take(alloc, receiver, channel, input, out)?;
+    let reply = take_unadmitted(alloc, receiver, channel, input, out)?;
     Ok(reply)
 }
 
 /// A burst comes to its flow, one of these.
 fn come_to<C: HeaderCheck + Drop, O: CaptureConsumer>(
     alloc: Global,
-    receiver: &mut Receiver<C>,
+    receiver: &mut SelectedReceiver<C>,
     flows: &mut [CapturedFlow],
     k: usize,
     waits: Waits,
@@ -72,7 +72,7 @@ fn come_to<C: HeaderCheck + Drop, O: CaptureConsumer>(
     ensures at_hand { IfOk result (λ _. IsAtHand C.accepts receiver.new) }
     ensures breaks { OnErr result (BreaksOff C.accepts O.saw receiver.old out.old
         receiver.new out.new) }
-    ensures receiving { IsReceiving C.accepts receiver.new }
+    ensures receiving { IsReceivingWhole C.accepts receiver.new }
     ensures waits { HaveWaits waits flows.new }
 {
     if k >= flows.len() {
@@ -85,7 +85,7 @@ fn come_to<C: HeaderCheck + Drop, O: CaptureConsumer>(
 /// Nothing more comes to one of these flows: all that waits is handed on, and a beginning ends.
 fn end_at<C: HeaderCheck + Drop, O: CaptureConsumer>(
     alloc: Global,
-    receiver: &mut Receiver<C>,
+    receiver: &mut SelectedReceiver<C>,
     flows: &mut [CapturedFlow],
     k: usize,
     waits: Waits,
@@ -99,7 +99,7 @@ fn end_at<C: HeaderCheck + Drop, O: CaptureConsumer>(
     ensures at_hand { IfOk result (λ _. IsAtHand C.accepts receiver.new) }
     ensures breaks { OnErr result (BreaksOff C.accepts O.saw receiver.old out.old
         receiver.new out.new) }
-    ensures receiving { IsReceiving C.accepts receiver.new }
+    ensures receiving { IsReceivingWhole C.accepts receiver.new }
     ensures waits { HaveWaits waits flows.new }
 {
     if k >= flows.len() {
@@ -112,7 +112,7 @@ fn end_at<C: HeaderCheck + Drop, O: CaptureConsumer>(
 /// Nothing more comes to any of these flows.
 fn end_all<C: HeaderCheck + Drop, O: CaptureConsumer>(
     alloc: Global,
-    receiver: &mut Receiver<C>,
+    receiver: &mut SelectedReceiver<C>,
     flows: &mut [CapturedFlow],
     waits: Waits,
     out: &mut O,
@@ -125,7 +125,7 @@ fn end_all<C: HeaderCheck + Drop, O: CaptureConsumer>(
     ensures at_hand { IfOk result (λ _. IsAtHand C.accepts receiver.new) }
     ensures breaks { OnErr result (BreaksOff C.accepts O.saw receiver.old out.old
         receiver.new out.new) }
-    ensures receiving { IsReceiving C.accepts receiver.new }
+    ensures receiving { IsReceivingWhole C.accepts receiver.new }
     ensures waits { HaveWaits waits flows.new }
 {
     for k in 0..flows.len() {
@@ -138,7 +138,7 @@ fn end_all<C: HeaderCheck + Drop, O: CaptureConsumer>(
 /// channel and its service identifier, and what becomes of it is handed in to the receiver.
 #[derive(Drop)]
 pub struct CapturedFlows<C> {
-    receiver: Receiver<C>,
+    receiver: SelectedReceiver<C>,
     flows: Vec<CapturedFlow>,
     sids: SidFlows,
     map: CaptureMap,
@@ -153,28 +153,33 @@ impl<C: HeaderCheck + Drop> CapturedFlows<C> {
     ghost use Rattle.consumer.specs.declared.given.Given.{Given};
     ghost use Rattle.bonded_flows.specs.Table.{TableSetup};
     ghost use Rattle.receiver.specs.HandedIn.{HandedIn};
-    ghost use Rattle.receiver.specs.Receiving.{StandsFor, IsSettledAt, HasGivenSince};
+    ghost use Rattle.flow_selection.specs.Selection.{is_selected};
+    ghost use Rattle.receiver.specs.Receiving.{IsSettledAt, HasGivenSince};
+    ghost use Rattle.selected_receiver.specs.Whole.{StandsForWhole};
 
     /// The flows of this map, of which nothing came yet, before a receiver of 16 channels that goes
-    /// by this rule of losses. A fault is one of the setup that the map makes.
+    /// by this rule of losses. Of the selected flows frames are joined; bursts of the others are
+    /// looked at. A fault is one of the setup that the map makes.
     pub fn new(
         alloc: Global,
         capture_map: CaptureMap,
         rule: LossRule,
         waits: Waits,
+        selected: Selection,
         check: C,
     ) -> Result<CapturedFlows<C>, SetupError>
-        ensures stands { IfOk result (λ captured. StandsFor C.accepts captured.receiver
+        ensures stands { IfOk result (λ captured. StandsForWhole C.accepts captured.receiver
             (C.accepts check) (made_from rule capture_map) [] []) }
         ensures views { IfOk result (λ captured. views_in captured
             ≡ map (view_begun waits) capture_map.flows.items) }
         ensures capturing { IfOk result (IsCapturing C.accepts) }
         ensures map { IfOk result (λ captured. captured.map ≡ capture_map) }
         ensures waits { IfOk result (λ captured. captured.waits ≡ waits) }
+        ensures selected { IfOk result (λ captured. captured.receiver.selected ≡ selected) }
         ensures fault { IfErr result (IsFaultOf capture_map) }
     {
         let setup = setup_of(alloc, &capture_map)?;
-        let receiver = match receiver_of(alloc, &setup, rule, check) {
+        let receiver = match receiver_of(alloc, &setup, rule, selected, check) {
             Ok(receiver) => receiver,
             Err(error) => return Err(error),
         };
@@ -205,9 +210,10 @@ impl<C: HeaderCheck + Drop> CapturedFlows<C> {
         ensures capturing { IfOk result (λ _. IsCapturing C.accepts self.new) }
         ensures breaks { OnErr result (BreaksOff C.accepts O.saw self.old.receiver out.old
             self.new.receiver out.new) }
-        ensures receiving { IsReceiving C.accepts self.new.receiver }
+        ensures receiving { IsReceivingWhole C.accepts self.new.receiver }
         ensures map { self.new.map ≡ self.old.map }
         ensures waits { self.new.waits ≡ self.old.waits }
+        ensures selected { self.new.receiver.selected ≡ self.old.receiver.selected }
     {
         let Some(channel) = channel_of(&self.map.channels, burst.channel) else {
             return Ok(BurstTaken::UnknownChannel);
@@ -251,9 +257,10 @@ impl<C: HeaderCheck + Drop> CapturedFlows<C> {
         ensures capturing { IfOk result (λ _. IsCapturing C.accepts self.new) }
         ensures breaks { OnErr result (BreaksOff C.accepts O.saw self.old.receiver out.old
             self.new.receiver out.new) }
-        ensures receiving { IsReceiving C.accepts self.new.receiver }
+        ensures receiving { IsReceivingWhole C.accepts self.new.receiver }
         ensures map { self.new.map ≡ self.old.map }
         ensures waits { self.new.waits ≡ self.old.waits }
+        ensures selected { self.new.receiver.selected ≡ self.old.receiver.selected }
     {
         for burst in bursts {
             self.take(alloc, burst, out)?;
@@ -275,7 +282,8 @@ impl<C: HeaderCheck + Drop> CapturedFlows<C> {
         ensures capturing { IfOk result (λ _. IsCapturing C.accepts self.new) }
         ensures breaks { OnErr result (BreaksOff C.accepts O.saw self.old.receiver out.old
             self.new.receiver out.new) }
-        ensures receiving { IsReceiving C.accepts self.new.receiver }
+        ensures receiving { IsReceivingWhole C.accepts self.new.receiver }
+        ensures selected { self.new.receiver.selected ≡ self.old.receiver.selected }
     {
         end_all(alloc, &mut self.receiver, &mut self.flows, self.waits, out)?;
         Ok(())
@@ -292,14 +300,24 @@ impl<C: HeaderCheck + Drop> CapturedFlows<C> {
         Some(usize::from(flow))
     }
 
-    /// What was counted of a flow since it last began, or none if there is no such flow.
+    /// The flows of which frames are joined.
+    pub fn selected(&self) -> &Selection
+        ensures { result.now ≡ self.now.receiver.selected }
+    {
+        self.receiver.selected()
+    }
+
+    /// What was counted of a flow since it last began, or none if there is no such flow. Of one
+    /// that isn't selected it was counted of what stood in for its bursts.
     pub fn counts(&self, flow: usize) -> Option<FlowCounts>
-        ensures none { result ≡ None ↔ (length self.now.receiver.flows.slots.items ≤ flow) }
+        ensures none { result ≡ None
+            ↔ (length self.now.receiver.receiver.flows.slots.items ≤ flow) }
         ensures counts { IfSome result (λ counts. (check : List ℕ → Bool) (made : TableSetup)
             (handed : List HandedIn) (given : List Given) (flow_record : FlowRecord)
-            → StandsFor C.accepts self.now.receiver check made handed given
+            → StandsForWhole C.accepts self.now.receiver check made handed given
             → slice_get made.records flow ≡ Some flow_record
-            → IsSettledAt self.now.receiver flow
+            → IsSettledAt self.now.receiver.receiver flow
+            → is_selected self.now.receiver.selected flow ≡ true
             → HasGivenSince check made flow flow_record handed given counts) }
     {
         self.receiver.counts(flow)
@@ -316,7 +334,7 @@ impl<C: HeaderCheck + Drop> CapturedFlows<C> {
     }
 
     /// The receiver, to be closed.
-    pub fn into_receiver(self) -> Receiver<C>
+    pub fn into_receiver(self) -> SelectedReceiver<C>
         ensures { result ≡ self.receiver }
     {
         self.receiver

@@ -1,22 +1,25 @@
 //! What becomes of the bursts of one flow.
-ghost use Rattle.std.specs.Prelude.{◌≡◌, ◌++◌, ◌∷◌, [], IfOk, OnOk, OnErr, true, false, option_to_list};
-ghost use Rattle.receiver.specs.Receiving.{IsReceiving};
+ghost use Rattle.std.specs.Prelude.{◌≡◌, ◌++◌, ◌∷◌, [], List, IfOk, OnOk, OnErr, true, false, option_to_list};
 ghost use Rattle.capture_rules.specs.Begin.{beginning_seen};
 ghost use Rattle.capture_rules.specs.Held.{held_by, wait_of};
 ghost use Rattle.captured_flows.specs.Flow.{Skips, LetsGo, HandsIn, HandsInAll, Begins, BeginsIf, LetsGoIf, HandsInIf, says_kept};
 ghost use Rattle.captured_flows.specs.Flow.{IsHandedOn, AreHandedOn, PassesOn, Comes, EndsWaiting, flow_begun};
-ghost use Rattle.captured_flows.specs.AtHand.{IsAtHand};
+ghost use Rattle.selected_receiver.specs.Whole.{IsReceivingWhole, IsAtHand};
 ghost use Rattle.captured_flows.specs.Taking.{TakesBy, BreaksOff};
+ghost use Rattle.captured_flows.specs.Shown.{begun_if};
+ghost use Rattle.captured_flows.specs.Steps.{CaptureStep};
 
 use crate::capture_consumer::CaptureConsumer;
-use crate::flow_fault::FlowFault;
 use crate::sound_burst::SoundBurst;
-use crate::taking::{expected, restart, skip, take, take_grant};
+use crate::taking::{take_grant, take_of};
 use crate::waits::Waits;
 use capture_rules::{Arrival, Beginning, Begun, ChannelOrder, HandedOn, HeldTime, HeldTimes};
 use docsis_wire::HeaderCheck;
+use flow_core::FlowCounts;
+use flow_selection::Selection;
 use lane::Input;
-use receiver::{Receiver, Reply, SegmentVerdict};
+use receiver::{Reply, SegmentVerdict};
+use selected_receiver::{FlowFault, SelectedReceiver};
 use std::alloc::{AllocError, Global};
 
 /// A flow whose bursts wait, are kept until it begins, or are held by the receiver.
@@ -31,7 +34,7 @@ pub(crate) struct CapturedFlow {
 /// The flow skips to a number, and what then doesn't lie ahead is held no longer.
 fn skip_past<C: HeaderCheck + Drop, O: CaptureConsumer>(
     alloc: Global,
-    receiver: &mut Receiver<C>,
+    receiver: &mut SelectedReceiver<C>,
     flow: usize,
     held: &mut HeldTimes,
     number: u16,
@@ -44,11 +47,11 @@ fn skip_past<C: HeaderCheck + Drop, O: CaptureConsumer>(
     ensures at_hand { IfOk result (λ _. IsAtHand C.accepts receiver.new) }
     ensures breaks { OnErr result (BreaksOff C.accepts O.saw receiver.old out.old
         receiver.new out.new) }
-    ensures receiving { IsReceiving C.accepts receiver.new }
+    ensures receiving { IsReceivingWhole C.accepts receiver.new }
     ensures wait { wait_of held.new ≡ wait_of held.old }
 {
-    skip(alloc, receiver, flow, number, out)?;
-    let number = expected(receiver, flow)?;
+    receiver.skip(alloc, flow, number, out)?;
+    let number = receiver.expected(flow)?;
     held.pass(number);
     Ok(())
 }
@@ -56,7 +59,7 @@ fn skip_past<C: HeaderCheck + Drop, O: CaptureConsumer>(
 /// Where something is held for long, the flow skips to the last of that.
 fn let_go<C: HeaderCheck + Drop, O: CaptureConsumer>(
     alloc: Global,
-    receiver: &mut Receiver<C>,
+    receiver: &mut SelectedReceiver<C>,
     flow: usize,
     held: &mut HeldTimes,
     now: u64,
@@ -69,10 +72,10 @@ fn let_go<C: HeaderCheck + Drop, O: CaptureConsumer>(
     ensures at_hand { IfOk result (λ _. IsAtHand C.accepts receiver.new) }
     ensures breaks { OnErr result (BreaksOff C.accepts O.saw receiver.old out.old
         receiver.new out.new) }
-    ensures receiving { IsReceiving C.accepts receiver.new }
+    ensures receiving { IsReceivingWhole C.accepts receiver.new }
     ensures wait { wait_of held.new ≡ wait_of held.old }
 {
-    let first = expected(receiver, flow)?;
+    let first = receiver.expected(flow)?;
     match held.skip_to(now, first) {
         Some(number) => {
             skip_past(alloc, receiver, flow, held, number, out)?;
@@ -104,7 +107,7 @@ fn keep_if(held: &mut HeldTimes, is_kept: bool, one: HeldTime) -> Result<(), All
 /// A burst is handed in, after what is held for long is let go.
 fn hand_in<C: HeaderCheck + Drop, O: CaptureConsumer>(
     alloc: Global,
-    receiver: &mut Receiver<C>,
+    receiver: &mut SelectedReceiver<C>,
     flow: usize,
     held: &mut HeldTimes,
     one: HandedOn<SoundBurst>,
@@ -117,7 +120,7 @@ fn hand_in<C: HeaderCheck + Drop, O: CaptureConsumer>(
     ensures at_hand { IfOk result (λ _. IsAtHand C.accepts receiver.new) }
     ensures breaks { OnErr result (BreaksOff C.accepts O.saw receiver.old out.old
         receiver.new out.new) }
-    ensures receiving { IsReceiving C.accepts receiver.new }
+    ensures receiving { IsReceivingWhole C.accepts receiver.new }
     ensures wait { wait_of held.new ≡ wait_of held.old }
 {
     let_go(alloc, receiver, flow, held, one.time, out)?;
@@ -136,10 +139,10 @@ fn hand_in<C: HeaderCheck + Drop, O: CaptureConsumer>(
         hcs_ok: true,
         bytes,
     };
-    let reply = take(alloc, receiver, channel, burst, out)?;
+    let reply = take_of(alloc, receiver, channel, flow, burst, out)?;
     out.replied(flow, burst_id, reply);
     keep_if(held, says_kept(&reply), entry)?;
-    let number = expected(receiver, flow)?;
+    let number = receiver.expected(flow)?;
     held.pass(number);
     Ok(())
 }
@@ -147,7 +150,7 @@ fn hand_in<C: HeaderCheck + Drop, O: CaptureConsumer>(
 /// These bursts are handed in, one after another.
 fn hand_in_all<C: HeaderCheck + Drop, O: CaptureConsumer>(
     alloc: Global,
-    receiver: &mut Receiver<C>,
+    receiver: &mut SelectedReceiver<C>,
     flow: usize,
     held: &mut HeldTimes,
     kept: Vec<HandedOn<SoundBurst>>,
@@ -160,7 +163,7 @@ fn hand_in_all<C: HeaderCheck + Drop, O: CaptureConsumer>(
     ensures at_hand { IfOk result (λ _. IsAtHand C.accepts receiver.new) }
     ensures breaks { OnErr result (BreaksOff C.accepts O.saw receiver.old out.old
         receiver.new out.new) }
-    ensures receiving { IsReceiving C.accepts receiver.new }
+    ensures receiving { IsReceivingWhole C.accepts receiver.new }
     ensures wait { wait_of held.new ≡ wait_of held.old }
 {
     for one in kept {
@@ -169,10 +172,25 @@ fn hand_in_all<C: HeaderCheck + Drop, O: CaptureConsumer>(
     Ok(())
 }
 
+/// Tells that a flow begins anew, and what was counted of it, if it is selected.
+fn tell_begun<O: CaptureConsumer>(
+    selected: &Selection,
+    flow: usize,
+    counts: FlowCounts,
+    out: &mut O,
+)
+    ensures { (start : O) (steps : List CaptureStep) → O.saw start steps out.old
+        → O.saw start (steps ++ begun_if selected.now flow counts) out.new }
+{
+    if selected.has(flow) {
+        out.begin_anew(flow, counts);
+    }
+}
+
 /// The flow begins, or begins anew: nothing is held, and what was kept is handed in.
 fn begin<C: HeaderCheck + Drop, O: CaptureConsumer>(
     alloc: Global,
-    receiver: &mut Receiver<C>,
+    receiver: &mut SelectedReceiver<C>,
     flow: usize,
     held: &mut HeldTimes,
     begun: Begun<SoundBurst>,
@@ -185,11 +203,11 @@ fn begin<C: HeaderCheck + Drop, O: CaptureConsumer>(
     ensures at_hand { IfOk result (λ _. IsAtHand C.accepts receiver.new) }
     ensures breaks { OnErr result (BreaksOff C.accepts O.saw receiver.old out.old
         receiver.new out.new) }
-    ensures receiving { IsReceiving C.accepts receiver.new }
+    ensures receiving { IsReceivingWhole C.accepts receiver.new }
     ensures wait { wait_of held.new ≡ wait_of held.old }
 {
-    let counts = restart(alloc, receiver, flow, begun.first, out)?;
-    out.begin_anew(flow, counts);
+    let counts = receiver.restart(alloc, flow, begun.first, out)?;
+    tell_begun(receiver.selected(), flow, counts, out);
     held.clear();
     hand_in_all(alloc, receiver, flow, held, begun.kept, out)?;
     Ok(())
@@ -198,7 +216,7 @@ fn begin<C: HeaderCheck + Drop, O: CaptureConsumer>(
 /// A flow of which a beginning has ended begins, or begins anew.
 fn begin_if<C: HeaderCheck + Drop, O: CaptureConsumer>(
     alloc: Global,
-    receiver: &mut Receiver<C>,
+    receiver: &mut SelectedReceiver<C>,
     flow: usize,
     held: &mut HeldTimes,
     begun: Option<Begun<SoundBurst>>,
@@ -211,7 +229,7 @@ fn begin_if<C: HeaderCheck + Drop, O: CaptureConsumer>(
     ensures at_hand { IfOk result (λ _. IsAtHand C.accepts receiver.new) }
     ensures breaks { OnErr result (BreaksOff C.accepts O.saw receiver.old out.old
         receiver.new out.new) }
-    ensures receiving { IsReceiving C.accepts receiver.new }
+    ensures receiving { IsReceivingWhole C.accepts receiver.new }
     ensures wait { wait_of held.new ≡ wait_of held.old }
 {
     match begun {
@@ -226,7 +244,7 @@ fn begin_if<C: HeaderCheck + Drop, O: CaptureConsumer>(
 /// After a silence what is held for long is let go.
 fn let_go_if<C: HeaderCheck + Drop, O: CaptureConsumer>(
     alloc: Global,
-    receiver: &mut Receiver<C>,
+    receiver: &mut SelectedReceiver<C>,
     flow: usize,
     held: &mut HeldTimes,
     is_silent: bool,
@@ -240,7 +258,7 @@ fn let_go_if<C: HeaderCheck + Drop, O: CaptureConsumer>(
     ensures at_hand { IfOk result (λ _. IsAtHand C.accepts receiver.new) }
     ensures breaks { OnErr result (BreaksOff C.accepts O.saw receiver.old out.old
         receiver.new out.new) }
-    ensures receiving { IsReceiving C.accepts receiver.new }
+    ensures receiving { IsReceivingWhole C.accepts receiver.new }
     ensures wait { wait_of held.new ≡ wait_of held.old }
 {
     if is_silent {
@@ -254,7 +272,7 @@ fn let_go_if<C: HeaderCheck + Drop, O: CaptureConsumer>(
 /// A burst that isn't kept is handed in.
 fn hand_in_if<C: HeaderCheck + Drop, O: CaptureConsumer>(
     alloc: Global,
-    receiver: &mut Receiver<C>,
+    receiver: &mut SelectedReceiver<C>,
     flow: usize,
     held: &mut HeldTimes,
     next: Option<HandedOn<SoundBurst>>,
@@ -267,7 +285,7 @@ fn hand_in_if<C: HeaderCheck + Drop, O: CaptureConsumer>(
     ensures at_hand { IfOk result (λ _. IsAtHand C.accepts receiver.new) }
     ensures breaks { OnErr result (BreaksOff C.accepts O.saw receiver.old out.old
         receiver.new out.new) }
-    ensures receiving { IsReceiving C.accepts receiver.new }
+    ensures receiving { IsReceivingWhole C.accepts receiver.new }
     ensures wait { wait_of held.new ≡ wait_of held.old }
 {
     match next {
@@ -299,7 +317,7 @@ impl CapturedFlow {
     fn hand_on<C: HeaderCheck + Drop, O: CaptureConsumer>(
         &mut self,
         alloc: Global,
-        receiver: &mut Receiver<C>,
+        receiver: &mut SelectedReceiver<C>,
         flow: usize,
         one: HandedOn<SoundBurst>,
         out: &mut O,
@@ -313,7 +331,7 @@ impl CapturedFlow {
         ensures at_hand { IfOk result (λ _. IsAtHand C.accepts receiver.new) }
         ensures breaks { OnErr result (BreaksOff C.accepts O.saw receiver.old out.old
             receiver.new out.new) }
-        ensures receiving { IsReceiving C.accepts receiver.new }
+        ensures receiving { IsReceivingWhole C.accepts receiver.new }
         ensures waits { KeepsWaits self.old self.new }
         ensures order { self.new.order ≡ self.old.order }
     {
@@ -329,7 +347,7 @@ impl CapturedFlow {
             one.time,
             out,
         )?;
-        let number = expected(receiver, flow)?;
+        let number = receiver.expected(flow)?;
         let next = self.beginning.hand_on(one, number, self.window)?;
         hand_in_if(alloc, receiver, flow, &mut self.held, next, out)?;
         Ok(())
@@ -339,7 +357,7 @@ impl CapturedFlow {
     fn pass_on<C: HeaderCheck + Drop, O: CaptureConsumer>(
         &mut self,
         alloc: Global,
-        receiver: &mut Receiver<C>,
+        receiver: &mut SelectedReceiver<C>,
         flow: usize,
         time: u64,
         out: &mut O,
@@ -352,7 +370,7 @@ impl CapturedFlow {
         ensures at_hand { IfOk result (λ _. IsAtHand C.accepts receiver.new) }
         ensures breaks { OnErr result (BreaksOff C.accepts O.saw receiver.old out.old
             receiver.new out.new) }
-        ensures receiving { IsReceiving C.accepts receiver.new }
+        ensures receiving { IsReceivingWhole C.accepts receiver.new }
         ensures waits { KeepsWaits self.old self.new }
     {
         while let Some(next) = self.order.next(time) {
@@ -365,7 +383,7 @@ impl CapturedFlow {
     fn hand_on_if<C: HeaderCheck + Drop, O: CaptureConsumer>(
         &mut self,
         alloc: Global,
-        receiver: &mut Receiver<C>,
+        receiver: &mut SelectedReceiver<C>,
         flow: usize,
         last: Option<HandedOn<SoundBurst>>,
         out: &mut O,
@@ -379,7 +397,7 @@ impl CapturedFlow {
         ensures at_hand { IfOk result (λ _. IsAtHand C.accepts receiver.new) }
         ensures breaks { OnErr result (BreaksOff C.accepts O.saw receiver.old out.old
             receiver.new out.new) }
-        ensures receiving { IsReceiving C.accepts receiver.new }
+        ensures receiving { IsReceivingWhole C.accepts receiver.new }
         ensures waits { KeepsWaits self.old self.new }
         ensures order { self.new.order ≡ self.old.order }
     {
@@ -396,7 +414,7 @@ impl CapturedFlow {
     pub(crate) fn come<C: HeaderCheck + Drop, O: CaptureConsumer>(
         &mut self,
         alloc: Global,
-        receiver: &mut Receiver<C>,
+        receiver: &mut SelectedReceiver<C>,
         flow: usize,
         one: Arrival<SoundBurst>,
         out: &mut O,
@@ -409,7 +427,7 @@ impl CapturedFlow {
         ensures at_hand { IfOk result (λ _. IsAtHand C.accepts receiver.new) }
         ensures breaks { OnErr result (BreaksOff C.accepts O.saw receiver.old out.old
             receiver.new out.new) }
-        ensures receiving { IsReceiving C.accepts receiver.new }
+        ensures receiving { IsReceivingWhole C.accepts receiver.new }
         ensures waits { KeepsWaits self.old self.new }
     {
         self.pass_on(alloc, receiver, flow, one.time, out)?;
@@ -422,7 +440,7 @@ impl CapturedFlow {
     pub(crate) fn end_waiting<C: HeaderCheck + Drop, O: CaptureConsumer>(
         &mut self,
         alloc: Global,
-        receiver: &mut Receiver<C>,
+        receiver: &mut SelectedReceiver<C>,
         flow: usize,
         out: &mut O,
     ) -> Result<(), FlowFault>
@@ -434,7 +452,7 @@ impl CapturedFlow {
         ensures at_hand { IfOk result (λ _. IsAtHand C.accepts receiver.new) }
         ensures breaks { OnErr result (BreaksOff C.accepts O.saw receiver.old out.old
             receiver.new out.new) }
-        ensures receiving { IsReceiving C.accepts receiver.new }
+        ensures receiving { IsReceivingWhole C.accepts receiver.new }
         ensures waits { KeepsWaits self.old self.new }
     {
         while let Some(next) = self.order.next_left() {

@@ -1,9 +1,11 @@
 //! The bursts of a capture, turned into what is handed in to a receiver.
 //!
 //! A capture has bursts with times; a [`receiver`] takes grants, bursts and decisions, and knows no
-//! time. [`CapturedFlows`] stands between them, for a [`capture_map::CaptureMap`]:
+//! time. [`CapturedFlows`] stands between them, for a [`capture_map::CaptureMap`], and joins the
+//! selected flows alone:
 //!
-//! 1. [`CapturedFlows::new`] makes the receiver of 16 channels, with the map's flows and rows.
+//! 1. [`CapturedFlows::new`] makes the receiver of 16 channels, with the map's flows and rows, of
+//!    which the selected flows are joined.
 //! 2. [`CapturedFlows::take`] takes a [`CapturedBurst`]. One whose channel or service identifier
 //!    the map doesn't have is passed over. One that its lane refuses is handed in at once, its
 //!    grant and itself. Any other comes to its flow by the rules of `capture_rules`: it waits for
@@ -19,9 +21,10 @@
 //!
 //! What matters most: what is handed in is what the definitions `SpellsBurst`, `SpellsBursts` and
 //! `EndsAll` say of the bursts, their times and the numbers that the receiver expects, and the
-//! receiver stands for it: so what was given is what the receiver's definitions give for it. And
-//! what the consumer saw stands beside it, move by move, by the definition `Plays`: what a burst
-//! gives stands behind that burst and before the next.
+//! receiver stands for it: so what is given is what the receiver's definitions give for it. What
+//! happens stands beside it, move by move, by the definition `Plays`: what a burst gives stands
+//! behind that burst and before the next. And the consumer saw what is seen of that where those
+//! flows are selected (`AreSeenOf`), though nobody joined the others' frames.
 #![tactic(auto)]
 
 mod burst_taken;
@@ -29,7 +32,6 @@ mod capture_consumer;
 mod captured_burst;
 mod captured_flows;
 mod flow;
-mod flow_fault;
 mod setup;
 mod sids;
 mod sound_burst;
@@ -40,6 +42,6 @@ pub use burst_taken::BurstTaken;
 pub use capture_consumer::CaptureConsumer;
 pub use captured_burst::CapturedBurst;
 pub use captured_flows::CapturedFlows;
-pub use flow_fault::FlowFault;
+pub use selected_receiver::FlowFault;
 pub use sound_burst::SoundBurst;
 pub use waits::Waits;

@@ -1,9 +1,8 @@
 //! What a receiver is set up with, of a map.
 ghost use Rattle.std.specs.Prelude.{◌≡◌, [], IfOk, IfErr, map};
 ghost use Rattle.receiver.specs.HandedIn.{made_of};
-ghost use Rattle.receiver.specs.Receiving.{StandsFor};
 ghost use Rattle.receiver.specs.Widths.{IsSetupErrorWithin};
-ghost use Rattle.captured_flows.specs.AtHand.{IsAtHand};
+ghost use Rattle.selected_receiver.specs.Whole.{StandsForWhole, IsAtHand};
 ghost use Rattle.captured_flows.specs.Captures.{record_of, row_of};
 ghost use Rattle.captured_flows.specs.Together.{HaveWaits, views_of, view_begun};
 
@@ -12,9 +11,11 @@ use crate::waits::Waits;
 use capture_map::{CaptureMap, MapFlow, MapSid};
 use docsis_wire::HeaderCheck;
 use flow_core::FlowRecord;
+use flow_selection::Selection;
 use lane::SidRow;
 use loss_rule::LossRule;
 use receiver::{MOST_FLOWS, Receiver, Setup, SetupError, Width};
+use selected_receiver::SelectedReceiver;
 use std::alloc::{AllocError, Global};
 
 /// The record of a flow. Where its first number isn't known it is 0: nothing is handed in before
@@ -94,20 +95,26 @@ pub(crate) fn flows_of(
     Ok(begun)
 }
 
-/// A receiver for a setup, of 16 channels and as many flows as there may be.
+/// A receiver for a setup, of 16 channels and as many flows as there may be, of which these are
+/// joined.
 pub(crate) fn receiver_of<C: HeaderCheck + Drop>(
     alloc: Global,
     setup: &Setup,
     rule: LossRule,
+    selected: Selection,
     check: C,
-) -> Result<Receiver<C>, SetupError>
-    ensures stands { IfOk result (λ receiver. StandsFor C.accepts receiver (C.accepts check)
-        (made_of rule 16 setup.now) [] []) }
+) -> Result<SelectedReceiver<C>, SetupError>
+    ensures stands { IfOk result (λ receiver. StandsForWhole C.accepts receiver
+        (C.accepts check) (made_of rule 16 setup.now) [] []) }
     ensures at_hand { IfOk result (λ receiver. IsAtHand C.accepts receiver) }
+    ensures selected { IfOk result (λ receiver. receiver.selected ≡ selected) }
     ensures fault { IfErr result (IsSetupErrorWithin 16 16384 setup.now) }
 {
     match Width::new(16, MOST_FLOWS) {
-        Ok(width) => Receiver::new(alloc, width, setup, rule, check),
+        Ok(width) => match Receiver::new(alloc, width, setup, rule, check) {
+            Ok(receiver) => Ok(SelectedReceiver::new(receiver, selected)),
+            Err(error) => Err(error),
+        },
         Err(_) => unreachable!(),
     }
 }

@@ -1,102 +1,86 @@
-//! What one flow of a receiver is asked and has to do.
-ghost use Rattle.std.specs.Prelude.{◌≡◌, ◌<◌, ◌∷◌, [], IfOk, OnErr};
-ghost use Rattle.reorder.specs.Limits.{modulus};
-ghost use Rattle.bonded_flows.specs.declared.decision.FlowDecision.{FlowDecision};
+//! Inputs are handed in of which it is known to which flow they come, or that they come to none.
+ghost use Rattle.std.specs.Prelude.{◌≡◌, true, IfOk, OnErr};
 ghost use Rattle.lane.specs.declared.input.Input.TheVariants.{Grant};
-ghost use Rattle.receiver.specs.HandedIn.{decided};
-ghost use Rattle.receiver.specs.Receiving.{IsReceiving, TakesMore, Replies, Restarts};
-ghost use Rattle.captured_flows.specs.AtHand.{IsAtHand};
-ghost use Rattle.captured_flows.specs.Taking.{IsExpected, TakesSome};
+ghost use Rattle.selected_receiver.specs.Whole.{IsReceivingWhole, IsAtHand};
+ghost use Rattle.selected_receiver.specs.Taking.{RepliesOfWhole, TakesSomeOfWhole};
+ghost use Rattle.captured_flows.specs.Replied.{admits_nothing, admits_of};
 
-use crate::flow_fault::FlowFault;
 use consumer::Consumer;
 use docsis_wire::HeaderCheck;
-use flow_core::FlowCounts;
 use lane::Input;
-use receiver::{FlowDecision, Receiver, Reply, RestartError, TakeError};
+use receiver::Reply;
+use selected_receiver::{FlowFault, SelectedReceiver};
 use std::alloc::Global;
 
-/// The number that a flow expects, 0 to 8191.
-pub(crate) fn expected<C: HeaderCheck + Drop>(
-    receiver: &Receiver<C>,
-    flow: usize,
-) -> Result<u16, FlowFault>
-    requires { IsAtHand C.accepts receiver.now }
-    ensures expects { IfOk result (IsExpected C.accepts receiver.now flow) }
-    ensures in_range { IfOk result (λ number. number < modulus) }
+/// Whether nothing is admitted.
+fn admits_nothing(reply: &Reply) -> bool
+    ensures { result ≡ admits_nothing reply.now }
 {
-    match receiver.expected(flow) {
-        Some(number) => Ok(number),
-        None => Err(FlowFault::NotThere),
+    match reply {
+        Reply::Admitted { .. } => false,
+        _ => true,
     }
 }
 
-/// The flow skips to this number, 0 to 8191.
-pub(crate) fn skip<C: HeaderCheck + Drop, O: Consumer>(
-    alloc: Global,
-    receiver: &mut Receiver<C>,
-    flow: usize,
-    number: u16,
-    out: &mut O,
-) -> Result<(), FlowFault>
-    requires at_hand { IsAtHand C.accepts receiver.old }
-    ensures takes { IfOk result (λ _. TakesMore O.after C.accepts receiver.old out.old
-        (decided flow (FlowDecision.SkipTo number) ∷ []) receiver.new out.new) }
-    ensures at_hand { IfOk result (λ _. IsAtHand C.accepts receiver.new) }
-    ensures fails { OnErr result
-        (TakesSome C.accepts O.after receiver.old out.old receiver.new out.new) }
-    ensures receiving { IsReceiving C.accepts receiver.new }
+/// Whether what is admitted, if anything is, is of this flow.
+fn admits_of(reply: &Reply, k: usize) -> bool
+    ensures { result ≡ admits_of k reply.now }
 {
-    match receiver.decide(alloc, flow, FlowDecision::SkipTo(number), out) {
-        Ok(_) => Ok(()),
-        Err(_) => Err(FlowFault::OutOfMemory),
+    match reply {
+        Reply::Admitted { flow, .. } => *flow == k,
+        _ => true,
     }
 }
 
-/// The flow is closed and begins anew at this number, 0 to 8191.
-pub(crate) fn restart<C: HeaderCheck + Drop, O: Consumer>(
+/// An input is handed in of which nothing is to be admitted. If something is, that is a fault.
+pub(crate) fn take_unadmitted<C: HeaderCheck + Drop, O: Consumer>(
     alloc: Global,
-    receiver: &mut Receiver<C>,
-    flow: usize,
-    first: u16,
-    out: &mut O,
-) -> Result<FlowCounts, FlowFault>
-    requires at_hand { IsAtHand C.accepts receiver.old }
-    ensures restarts { IfOk result (λ counts. Restarts O.after C.accepts receiver.old out.old
-        flow first counts receiver.new out.new) }
-    ensures at_hand { IfOk result (λ _. IsAtHand C.accepts receiver.new) }
-    ensures fails { OnErr result
-        (TakesSome C.accepts O.after receiver.old out.old receiver.new out.new) }
-    ensures receiving { IsReceiving C.accepts receiver.new }
-{
-    match receiver.restart(alloc, flow, first, out) {
-        Ok(counts) => Ok(counts),
-        Err(RestartError::OutOfMemory) => Err(FlowFault::OutOfMemory),
-        Err(_) => Err(FlowFault::NotThere),
-    }
-}
-
-/// An input of a channel is handed in.
-pub(crate) fn take<C: HeaderCheck + Drop, O: Consumer>(
-    alloc: Global,
-    receiver: &mut Receiver<C>,
+    receiver: &mut SelectedReceiver<C>,
     channel: usize,
     input: Input,
     out: &mut O,
 ) -> Result<Reply, FlowFault>
     requires at_hand { IsAtHand C.accepts receiver.old }
-    ensures replies { IfOk result (λ reply. Replies O.after C.accepts receiver.old out.old
+    ensures replies { IfOk result (λ reply. RepliesOfWhole C.accepts O.after receiver.old out.old
         channel input reply receiver.new out.new) }
+    ensures admits { IfOk result (λ reply. admits_nothing reply ≡ true) }
     ensures at_hand { IfOk result (λ _. IsAtHand C.accepts receiver.new) }
     ensures fails { OnErr result
-        (TakesSome C.accepts O.after receiver.old out.old receiver.new out.new) }
-    ensures receiving { IsReceiving C.accepts receiver.new }
+        (TakesSomeOfWhole C.accepts O.after receiver.old out.old receiver.new out.new) }
+    ensures receiving { IsReceivingWhole C.accepts receiver.new }
 {
-    match receiver.take(alloc, channel, input, out) {
-        Ok(reply) => Ok(reply),
-        Err(TakeError::NoChannel(_)) => Err(FlowFault::NotThere),
-        Err(TakeError::NotTaken(_, _)) => Err(FlowFault::OutOfMemory),
-        Err(TakeError::Unfinished { .. }) => Err(FlowFault::OutOfMemory),
+    let reply = receiver.take(alloc, channel, input, out)?;
+    if admits_nothing(&reply) {
+        Ok(reply)
+    } else {
+        Err(FlowFault::NotThere)
+    }
+}
+
+/// An input is handed in of which nothing is to be admitted but a segment of this flow. If another
+/// flow's is, that is a fault.
+pub(crate) fn take_of<C: HeaderCheck + Drop, O: Consumer>(
+    alloc: Global,
+    receiver: &mut SelectedReceiver<C>,
+    channel: usize,
+    flow: usize,
+    input: Input,
+    out: &mut O,
+) -> Result<Reply, FlowFault>
+    requires at_hand { IsAtHand C.accepts receiver.old }
+    ensures replies { IfOk result (λ reply. RepliesOfWhole C.accepts O.after receiver.old out.old
+        channel input reply receiver.new out.new) }
+    ensures admits { IfOk result (λ reply. admits_of flow reply ≡ true) }
+    ensures at_hand { IfOk result (λ _. IsAtHand C.accepts receiver.new) }
+    ensures fails { OnErr result
+        (TakesSomeOfWhole C.accepts O.after receiver.old out.old receiver.new out.new) }
+    ensures receiving { IsReceivingWhole C.accepts receiver.new }
+{
+    let reply = receiver.take(alloc, channel, input, out)?;
+    if admits_of(&reply, flow) {
+        Ok(reply)
+    } else {
+        Err(FlowFault::NotThere)
     }
 }
 
@@ -104,24 +88,25 @@ pub(crate) fn take<C: HeaderCheck + Drop, O: Consumer>(
 /// number does for all grants.
 pub(crate) fn take_grant<C: HeaderCheck + Drop, O: Consumer>(
     alloc: Global,
-    receiver: &mut Receiver<C>,
+    receiver: &mut SelectedReceiver<C>,
     channel: usize,
     sid: u16,
     bytes: u32,
     out: &mut O,
 ) -> Result<Reply, FlowFault>
     requires at_hand { IsAtHand C.accepts receiver.old }
-    ensures replies { IfOk result (λ reply. Replies O.after C.accepts receiver.old out.old
+    ensures replies { IfOk result (λ reply. RepliesOfWhole C.accepts O.after receiver.old out.old
         channel (Grant 0 sid bytes) reply receiver.new out.new) }
+    ensures admits { IfOk result (λ reply. admits_nothing reply ≡ true) }
     ensures at_hand { IfOk result (λ _. IsAtHand C.accepts receiver.new) }
     ensures fails { OnErr result
-        (TakesSome C.accepts O.after receiver.old out.old receiver.new out.new) }
-    ensures receiving { IsReceiving C.accepts receiver.new }
+        (TakesSomeOfWhole C.accepts O.after receiver.old out.old receiver.new out.new) }
+    ensures receiving { IsReceivingWhole C.accepts receiver.new }
 {
     let grant = Input::Grant {
         number: 0,
         sid,
         bytes,
     };
-    take(alloc, receiver, channel, grant, out)
+    take_unadmitted(alloc, receiver, channel, grant, out)
 }

@@ -90,6 +90,14 @@ fn stand_in<C: HeaderCheck + Drop>(
     }
 }
 
+/// Why an input wasn't taken, or not to the end.
+fn fault_of(error: &TakeError) -> FlowFault {
+    match error {
+        TakeError::NoChannel(_) => FlowFault::NotThere,
+        TakeError::NotTaken(_, _) | TakeError::Unfinished { .. } => FlowFault::OutOfMemory,
+    }
+}
+
 impl<C: HeaderCheck + Drop> SelectedReceiver<C> {
     /// A receiver to which nothing was handed in, of which these flows are joined.
     pub fn new(receiver: Receiver<C>, selected: Selection) -> SelectedReceiver<C>
@@ -198,9 +206,7 @@ impl<C: HeaderCheck + Drop> SelectedReceiver<C> {
         let mut told = OfSelected::new(&self.selected, out);
         match self.receiver.take(alloc, channel, input, &mut told) {
             Ok(reply) => Ok(reply),
-            Err(TakeError::NoChannel(_)) => Err(FlowFault::NotThere),
-            Err(TakeError::NotTaken(_, _)) => Err(FlowFault::OutOfMemory),
-            Err(TakeError::Unfinished { .. }) => Err(FlowFault::OutOfMemory),
+            Err(error) => Err(fault_of(&error)),
         }
     }
 

@@ -1,7 +1,7 @@
 -- The flows so far have ended.
 use Rattle.captured_flows.specs.Captures.{EndsAll}
 use Rattle.captured_flows.specs.Together.{HaveWaits, views_of}
-use Rattle.captured_flows.specs.AtHand.{IsAtHand}
+use Rattle.selected_receiver.specs.Whole.{IsAtHand}
 use Rattle.captured_flows.specs.Taking.{TakesBy}
 use Rattle.captured_flows.proofs.captured_flows.end_all.Given as goal
 

@@ -2,7 +2,7 @@
 use Rattle.std.proofs.Common.{◌≡◌}
 use Rattle.capture_rules.specs.Held.{held_by, wait_of}
 use Rattle.captured_flows.specs.Flow.{HandsInAll}
-use Rattle.captured_flows.specs.AtHand.{IsAtHand}
+use Rattle.selected_receiver.specs.Whole.{IsAtHand}
 use Rattle.captured_flows.specs.Taking.{TakesBy}
 use Rattle.captured_flows.proofs.flow.hand_in_all.Given as goal
 

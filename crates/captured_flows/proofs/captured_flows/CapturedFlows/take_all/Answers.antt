@@ -23,6 +23,7 @@ loop-burst-init g c =
       capturing = c.requires.capturing;
       map = refl;
       waits = refl;
+      selected = refl;
     }
 
 pub loop-burst-preserved : goal.loop-burst-preserved
@@ -45,6 +46,7 @@ loop-burst-preserved g c =
       capturing = c.in_ok-take.ensures.capturing;
       map = c.take.ensures.map ∙ so_far.map;
       waits = c.take.ensures.waits ∙ so_far.waits;
+      selected = c.take.ensures.selected ∙ so_far.selected;
     }
 
 pub returns-clause-takes : goal.returns-clause-takes

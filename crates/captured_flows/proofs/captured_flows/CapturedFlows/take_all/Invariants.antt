@@ -13,4 +13,5 @@ invariant-loop-burst g l = record {
   capturing : IsCapturing g.C.HeaderCheck.accepts l.self;
   map : l.self.map ≡ l.fn.self.map;
   waits : l.self.waits ≡ l.fn.self.waits;
+  selected : l.self.receiver.selected ≡ l.fn.self.receiver.selected;
 }

@@ -5,7 +5,7 @@ use Rattle.capture_rules.specs.Begin.{beginning_seen}
 use Rattle.capture_rules.specs.Held.{held_by, wait_of}
 use Rattle.captured_flows.specs.Flow.{Next, AreHandedOn}
 use Rattle.captured_flows.specs.Seen.{KeepsWaits}
-use Rattle.captured_flows.specs.AtHand.{IsAtHand}
+use Rattle.selected_receiver.specs.Whole.{IsAtHand}
 use Rattle.captured_flows.specs.Taking.{TakesBy}
 use Rattle.captured_flows.proofs.Waited.{HandsAllOnAfter}
 use Rattle.captured_flows.proofs.flow.CapturedFlow.end_waiting.Given as goal

@@ -6,7 +6,6 @@ use Rattle.capture_rules.specs.Begin.{beginning_seen}
 use Rattle.capture_rules.specs.Held.{held_by, wait_of}
 use Rattle.captured_flows.proofs.HandedOnTo.{none-handed_on, one-handed_on}
 use Rattle.captured_flows.proofs.Taken.{Nothing, takes-none, takes-as}
-use Rattle.captured_flows.proofs.Broken.{on-any_err}
 use Rattle.captured_flows.proofs.flow.CapturedFlow.hand_on_if.Goals as goal
 
 pub returns-in_ok-hand_on-in-Some-clause-takes : goal.returns-in_ok-hand_on-in-Some-clause-takes

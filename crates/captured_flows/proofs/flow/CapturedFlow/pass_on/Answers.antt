@@ -1,4 +1,4 @@
-use Rattle.std.proofs.Common.{◌≡◌, ℕ, ◌<◌, true, false, List, [], ◌∷◌, ◌++◌, length, refl, sym, subst, ◌∙◌}
+use Rattle.std.proofs.Common.{ℕ, ◌<◌, List, [], ◌∷◌, ◌++◌, length, refl, sym, subst, ◌∙◌}
 use Rattle.captured_flows.specs.Acts.{Act}
 use Rattle.capture_rules.specs.declared.channel_order.ChannelOrder.{ChannelOrder}
 use Rattle.capture_rules.specs.Waiting.{order_seen}

@@ -32,42 +32,22 @@ returns-in-Ok-clause-at_hand g c = record {
   settled = rest-replied c.args.self.now.receiver c.take.new.self c.in-Ok.reply c.in-Ok.ensures.others c.in-Ok.ensures.settled c.requires.at_hand.settled;
 }
 
-pub returns-in-Err-NoChannel-clause-fails : goal.returns-in-Err-NoChannel-clause-fails
-returns-in-Err-NoChannel-clause-fails g c =
+pub returns-in-Err-clause-fails : goal.returns-in-Err-clause-fails
+returns-in-Err-clause-fails g c =
     let after = g.O.Consumer.after in
     let hands = failed-handed g.C.HeaderCheck.accepts after c.args.self.now (record { receiver = c.take.new.self; selected = c.args.self.now.selected }) c.new-told.result c.take.new.out refl
-    c.new-told.ensures.selected c.args.channel c.stand_in-input.result _ c.in-Err-NoChannel.ensures.fails in
+    c.new-told.ensures.selected c.args.channel c.stand_in-input.result c.in-Err.error c.in-Err.ensures.fails in
     let name = hands ∙ c.new-told.ensures.same_reference in
     let takes = some-failed g.C.HeaderCheck.accepts after c.args.self.now (record { receiver = c.take.new.self; selected = c.args.self.now.selected }) c.new-told.result c.take.new.out refl
-    c.new-told.ensures.selected c.args.channel c.args.input c.stand_in-input.result c.stand_in-input.ensures c.has_bytes.ensures _ c.in-Err-NoChannel.ensures.fails in
+    c.new-told.ensures.selected c.args.channel c.args.input c.stand_in-input.result c.stand_in-input.ensures c.has_bytes.ensures c.in-Err.error c.in-Err.ensures.fails in
     search (rules, c.new-told.ensures.same)
 
-pub returns-in-Err-NoChannel-clause-receiving : goal.returns-in-Err-NoChannel-clause-receiving
-returns-in-Err-NoChannel-clause-receiving g c =
+pub returns-in-Err-clause-receiving : goal.returns-in-Err-clause-receiving
+returns-in-Err-clause-receiving g c =
     let accepts = g.C.HeaderCheck.accepts in
     let after = g.O.Consumer.after in
     let old = c.args.self.now in
     receiving-then accepts after old (record { receiver = c.take.new.self; selected = old.selected }) c.new-told.result.out.now c.take.new.out.out.now
     (some-failed accepts after old (record { receiver = c.take.new.self; selected = old.selected }) c.new-told.result c.take.new.out refl c.new-told.ensures.selected c.args.channel
-    c.args.input c.stand_in-input.result c.stand_in-input.ensures c.has_bytes.ensures _ c.in-Err-NoChannel.ensures.fails)
-    c.requires.at_hand.receiving
-
-pub returns-in-Err-NotTaken-clause-fails : goal.returns-in-Err-NotTaken-clause-fails
-returns-in-Err-NotTaken-clause-fails g c =
-    let after = g.O.Consumer.after in
-    let hands = failed-handed g.C.HeaderCheck.accepts after c.args.self.now (record { receiver = c.take.new.self; selected = c.args.self.now.selected }) c.new-told.result c.take.new.out refl
-    c.new-told.ensures.selected c.args.channel c.stand_in-input.result _ c.in-Err-NotTaken.ensures.fails in
-    let name = hands ∙ c.new-told.ensures.same_reference in
-    let takes = some-failed g.C.HeaderCheck.accepts after c.args.self.now (record { receiver = c.take.new.self; selected = c.args.self.now.selected }) c.new-told.result c.take.new.out refl
-    c.new-told.ensures.selected c.args.channel c.args.input c.stand_in-input.result c.stand_in-input.ensures c.has_bytes.ensures _ c.in-Err-NotTaken.ensures.fails in
-    search (rules, c.new-told.ensures.same)
-
-pub returns-in-Err-NotTaken-clause-receiving : goal.returns-in-Err-NotTaken-clause-receiving
-returns-in-Err-NotTaken-clause-receiving g c =
-    let accepts = g.C.HeaderCheck.accepts in
-    let after = g.O.Consumer.after in
-    let old = c.args.self.now in
-    receiving-then accepts after old (record { receiver = c.take.new.self; selected = old.selected }) c.new-told.result.out.now c.take.new.out.out.now
-    (some-failed accepts after old (record { receiver = c.take.new.self; selected = old.selected }) c.new-told.result c.take.new.out refl c.new-told.ensures.selected c.args.channel
-    c.args.input c.stand_in-input.result c.stand_in-input.ensures c.has_bytes.ensures _ c.in-Err-NotTaken.ensures.fails)
+    c.args.input c.stand_in-input.result c.stand_in-input.ensures c.has_bytes.ensures c.in-Err.error c.in-Err.ensures.fails)
     c.requires.at_hand.receiving
