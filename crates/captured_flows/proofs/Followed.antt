@@ -111,7 +111,7 @@ module _ (check : List ℕ → Bool) (made : TableSetup) where
   move-none handed given later behind k (skips_to flow number gives is) none = (tt, tt)
   move-none handed given later behind k (is_unsound channel burst granting coming of_grant of_burst unsound no_grant no_burst first second) none =
       (nothing_admitted k granting no_grant, (nothing_admitted k coming no_burst, tt))
-  move-none handed given later behind k (is_told flow one granting coming reply of_grant of_burst says rightly no_grant its_own first second) none = (
+  move-none handed given later behind k (is_told flow one granting coming reply of_grant of_burst says no_grant its_own rightly first second) none = (
     nothing_admitted k granting no_grant,
     (
       λ admitted is. λ same.
@@ -154,6 +154,14 @@ module _ (check : List ℕ → Bool) (made : TableSetup) where
         last_none [] ys none = none
         last_none (x ∷ xs) ys none = absurd cc
 
+    -- all that is given for two acts, given one after the other
+    all_of_both : (handed : List Act) (one other : Act) (first second : List Given)
+        → IsGivenFor check made ((handed ++ one ∷ []) ++ other ∷ []) ((given_in steps ++ first) ++ second)
+        → IsGivenFor check made (handed ++ one ∷ other ∷ []) (given_in steps ++ (first ++ second))
+    all_of_both handed one other first second is =
+        subst (λ (h : List Act). IsGivenFor check made h (given_in steps ++ (first ++ second))) (append_assoc handed (one ∷ []) (other ∷ []))
+        (subst (λ (g : List Given). IsGivenFor check made ((handed ++ one ∷ []) ++ other ∷ []) g) (append_assoc (given_in steps) first second) is)
+
     -- steps in which no burst is handed in say nothing of what was
     still : (behind : List CaptureStep) → ((k : ℕ) → hands_in k behind ≡ false) → (k : ℕ) → hands_in k steps ≡ false → hands_in k (steps ++ behind) ≡ false
     still behind none k is = hands-append k steps behind ∙ or_false (hands_in k steps) (hands_in k behind) is (none k)
@@ -166,10 +174,10 @@ module _ (check : List ℕ → Bool) (made : TableSetup) where
         let move = is_unsound channel burst granting coming of_grant of_burst unsound no_grant no_burst first second in
         follow-gave steps gives
         (none-unseen later behind steps gives move (still behind (λ k. hands-gave k gives)) (all_of_both _ _ _ of_grant of_burst second))
-    move-follows later behind (is_told flow one granting coming reply of_grant of_burst says rightly no_grant its_own first second) =
+    move-follows later behind (is_told flow one granting coming reply of_grant of_burst says no_grant its_own rightly first second) =
         let gives = of_grant ++ of_burst in
         let last = replied flow one.arrival.item.burst_id reply in
-        let move = is_told flow one granting coming reply of_grant of_burst says rightly no_grant its_own first second in
+        let move = is_told flow one granting coming reply of_grant of_burst says no_grant its_own rightly first second in
         let before = steps ++ handed_in flow one.arrival ∷ [] in
         let as_well : (k : ℕ) → hands_in k before ≡ false → hands_in k (steps ++ behind) ≡ false =
         λ k none.
@@ -191,14 +199,6 @@ module _ (check : List ℕ → Bool) (made : TableSetup) where
         (follow-gave steps gives
         (none-unseen later behind steps gives move
         (still behind (λ k. hands-append k (map gave gives) (last ∷ []) ∙ or_false (hands_in k (map gave gives)) false (hands-gave k gives) refl)) is)) (tt, tt)
-
-    -- all that is given for two acts, given one after the other
-    all_of_both : (handed : List Act) (one other : Act) (first second : List Given)
-        → IsGivenFor check made ((handed ++ one ∷ []) ++ other ∷ []) ((given_in steps ++ first) ++ second)
-        → IsGivenFor check made (handed ++ one ∷ other ∷ []) (given_in steps ++ (first ++ second))
-    all_of_both handed one other first second is =
-        subst (λ (h : List Act). IsGivenFor check made h (given_in steps ++ (first ++ second))) (append_assoc handed (one ∷ []) (other ∷ []))
-        (subst (λ (g : List Given). IsGivenFor check made ((handed ++ one ∷ []) ++ other ∷ []) g) (append_assoc (given_in steps) first second) is)
 
   pub follow-plays : {handed : List Act} {steps : List CaptureStep} → Plays check made [] [] handed steps → FollowBursts [] steps
   follow-plays nothing = tt
