@@ -12,14 +12,14 @@ FEW, MANY = 500, 1500
 
 def trace(frames):
     """A trace of one flow, each frame of 8 bytes a segment with a grant."""
-    yield "flow 1 0 16 1\nsid 0 1 0\n"
+    yield b"flow 1 0 16 1\nsid 0 1 0\n"
     for number in range(frames):
         header = f"8000{number % 8192 << 3:04x}00000000"
-        yield f"grant 0 {number} 1 16\nburst 0 {number} ok {header}000000021111aabb\n"
+        yield f"grant 0 {number} 1 16\nburst 0 {number} ok {header}000000021111aabb\n".encode()
 
 
 def has_frames(text, frames):
-    return text.count("frame 0 ") == frames
+    return text.count(b"frame 0 ") == frames
 
 
 def measured_lists(segrx, room):

@@ -222,7 +222,7 @@ fn clocks_of_all_flows_are_counted(rt: HostRuntime) -> Result<(), Fail> {
 
 /// The burst of the segment with this number, whose request for cluster 0 is of this size, and
 /// whose payload is this; it came at a time which is also the analyser's number of it.
-fn burst_with(
+pub(crate) fn burst_with(
     alloc: Global,
     time: u64,
     number: u16,
@@ -244,7 +244,7 @@ fn burst_with(
 }
 
 /// A frame of 8 bytes, the last of which is this.
-fn frame_of(last: u8) -> [u8; 8] {
+pub(crate) fn frame_of(last: u8) -> [u8; 8] {
     [0, 0, 0, 2, 0, 0, 0, last]
 }
 

@@ -12,3 +12,5 @@ mod flows_of_captures;
 mod model;
 #[cfg(test)]
 mod model_cases;
+#[cfg(test)]
+mod some_flows;

@@ -1,6 +1,5 @@
 -- What waited was put into the file, and compared.
 use Rattle.std.proofs.Common.{List, subst}
-use Rattle.flow_selection.specs.declared.selection.Selection.{Selection}
 use Rattle.timed_frames.specs.declared.timed_step.TimedStep.{TimedStep}
 use Rattle.frame_engine.specs.Compared.{arrivals_of_steps}
 use Rattle.frame_engine.specs.Comparing.{Takes}
@@ -10,8 +9,7 @@ use Rattle.frame_engine.proofs.joining.put_came.Goals as goal
 
 pub returns-clause-compared : goal.returns-clause-compared
 returns-clause-compared c =
-    subst (λ (selected : Selection). Takes (arrivals_of_steps selected c.args.timed.now.waiting.items) c.args.comparing.now c.take_steps.new.self) c.put_all.ensures.selected
-    (subst (λ (steps : List TimedStep). Takes (arrivals_of_steps c.put_all.new.self.selected steps) c.args.comparing.now c.take_steps.new.self) c.waiting-3.ensures c.take_steps.ensures.takes)
+    subst (λ (steps : List TimedStep). Takes (arrivals_of_steps c.args.selected.now steps) c.args.comparing.now c.take_steps.new.self) c.waiting-3.ensures c.take_steps.ensures.takes
 
 pub returns-clause-explained : goal.returns-clause-explained
 returns-clause-explained c =

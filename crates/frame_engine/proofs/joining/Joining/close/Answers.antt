@@ -1,9 +1,12 @@
 -- The receiver was closed.
-use Rattle.std.proofs.Common.{subst}
+use Rattle.std.proofs.Common.{subst, ap, ◌∙◌}
 use Rattle.std.proofs.lemmas.Result.{on_ok_weaker}
 use Rattle.selected_receiver.specs.Taking.{ClosesOfWhole}
 use Rattle.selected_receiver.specs.declared.selected_receiver.SelectedReceiver.{SelectedReceiver}
+use Rattle.flow_selection.specs.declared.selection.Selection.{Selection}
 use Rattle.timed_frames.specs.Seen.{HasGiven}
+use Rattle.frame_engine.specs.Compared.{arrivals_of_steps}
+use Rattle.frame_engine.specs.Comparing.{Takes}
 use Rattle.frame_engine.specs.declared.inner_check.InnerCheck.{InnerCheck}
 use Rattle.frame_engine.specs.Settings.{inner_accepts}
 use Rattle.frame_engine.proofs.Taken.{ended-closed}
@@ -24,5 +27,7 @@ returns-in-Ok-clause-compared c =
     three-ok c.put_came-put.result
     (λ puts takes explains. λ settings capture_map records bursts written has.
     closed-beside settings capture_map records bursts written c.args.self c.close.new.out c.put_came-put.new.timed c.put_came-put.new.file c.in-Ok.closed c.args.comparing.now
-    c.put_came-put.new.comparing has closes puts takes explains)
+    c.put_came-put.new.comparing has closes puts
+    (subst (λ (selected : Selection). Takes (arrivals_of_steps selected c.close.new.out.waiting.items) c.args.comparing.now c.put_came-put.new.comparing)
+    (c.close.ensures.selected ∙ ap (λ (receiver : SelectedReceiver InnerCheck). receiver.selected) c.into_receiver.ensures) takes) explains)
     c.put_came-put.ensures.put c.put_came-put.ensures.compared c.put_came-put.ensures.explained

@@ -1,7 +1,9 @@
 -- A burst more came.
-use Rattle.std.proofs.Common.{refl}
+use Rattle.std.proofs.Common.{refl, subst}
 use Rattle.std.proofs.lemmas.Result.{on_ok_weaker}
+use Rattle.flow_selection.specs.declared.selection.Selection.{Selection}
 use Rattle.frame_engine.specs.Compared.{arrivals_of_steps}
+use Rattle.frame_engine.specs.Comparing.{Takes}
 use Rattle.frame_engine.proofs.Taken.{taken-more}
 use Rattle.frame_engine.proofs.Beside.{three-ok, taken-beside}
 use Rattle.frame_engine.proofs.Explained.{takes-kept}
@@ -26,5 +28,6 @@ returns-in-Ok-clause-compared c =
     taken-beside settings capture_map records one bursts c.args.burst c.in-Ok.told written c.args.self.now
     (record { flows = c.take.new.self; timed = c.put_came-put.new.timed; file = c.put_came-put.new.file; records = c.args.self.now.records })
     c.take.new.out old new told.reasons holds has c.in-Ok.ensures.takes puts c.take.ensures.map c.take.ensures.waits c.tell_taken.ensures.tells
-    (takes-kept (arrivals_of_steps c.args.self.now.file.selected c.take.new.out.waiting.items) old told new new c.tell_taken.ensures.comparison takes refl) explains)
+    (takes-kept (arrivals_of_steps c.take.new.self.receiver.selected c.take.new.out.waiting.items) old told new new c.tell_taken.ensures.comparison
+    (subst (λ (selected : Selection). Takes (arrivals_of_steps selected c.take.new.out.waiting.items) told new) c.selected.ensures takes) refl) explains)
     c.put_came-put.ensures.put c.put_came-put.ensures.compared c.put_came-put.ensures.explained
