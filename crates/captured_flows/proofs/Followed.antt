@@ -41,7 +41,7 @@ or_false : (a b : Bool) → a ≡ false → b ≡ false → (a || b) ≡ false
 or_false true b is also = absurd cc
 or_false false b is also = also
 
-hands-append : (k : ℕ) (before behind : List CaptureStep) → hands_in k (before ++ behind) ≡ (hands_in k before || hands_in k behind)
+pub hands-append : (k : ℕ) (before behind : List CaptureStep) → hands_in k (before ++ behind) ≡ (hands_in k before || hands_in k behind)
 hands-append k [] behind = refl
 hands-append k (handed_in flow burst ∷ before) behind =
     ap (λ (b : Bool). (flow == k) || b) (hands-append k before behind) ∙ sym (or_assoc (flow == k) (hands_in k before) (hands_in k behind))
@@ -85,7 +85,7 @@ follow-gave before [] none = tt
 follow-gave before (one ∷ given) none = (
   first-behind before one given none,
   follow-gave (before ++ gave one ∷ []) given
-  (λ k is. (none_of_option (frame_of k one) (frames_of k given) (none k (or_first (hands_in k before) false (sym (hands-append k before (gave one ∷ [])) ∙ is)))).1),
+      (λ k is. (none_of_option (frame_of k one) (frames_of k given) (none k (or_first (hands_in k before) false (sym (hands-append k before (gave one ∷ [])) ∙ is)))).1),
 )
 
 -- ---- moves

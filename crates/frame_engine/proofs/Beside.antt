@@ -227,6 +227,7 @@ module _ (settings : CaptureSettings) (capture_map : CaptureMap) where
     stands = has.stands;
     map_is = has.map_is;
     waits_are = has.waits_are;
+    selected_are = has.selected_are;
     filed = has.filed;
   }
 

@@ -22,7 +22,7 @@ use Rattle.timed_frames.specs.Timing.{timed_then}
 use Rattle.frame_engine.specs.declared.settings.CaptureSettings.{CaptureSettings}
 use Rattle.frame_engine.specs.declared.frame_file.FrameFile.{FrameFile}
 use Rattle.frame_engine.specs.Written.{flow_of_frame, written_of, written_in, steps_left, left_in}
-use Rattle.frame_engine.specs.Joined.{of_all_flows, none_handed_in, whole_file, file_of, seen_of, IsFileOf}
+use Rattle.frame_engine.specs.Joined.{of_all_flows, none_handed_in, whole_file, file_of, steps_seen, IsFileOf}
 use Rattle.frame_engine.specs.Inside.Joins.{PutsCame, HasFiled}
 
 module _ (settings : CaptureSettings) (capture_map : CaptureMap) where
@@ -45,21 +45,21 @@ module _ (settings : CaptureSettings) (capture_map : CaptureMap) where
 
   -- **More steps were seen, and what came of them was put.**
   unfoldable pub filed-more : (steps more seen : List CaptureStep) (written : List ℕ) (timed mid timed' : TimedFrames) (file file' : FrameFile)
-      → HasFiled settings capture_map steps written timed file → HasSeen timed seen mid → seen ≡ seen_of settings capture_map more → PutsCame mid file timed' file'
+      → HasFiled settings capture_map steps written timed file → HasSeen timed seen mid → seen ≡ steps_seen settings capture_map more → PutsCame mid file timed' file'
       → HasFiled settings capture_map (steps ++ more) written timed' file'
   filed-more steps more seen written timed mid timed' file file' filed saw is puts =
       let shown = saw puts.was_whole in
       let later = shown.1.came in
       let waited : mid.waiting.items ≡ later = shown.1.waiting ∙ ap (λ (w : List TimedStep). w ++ later) filed.none_waits in
-      let all : seen_of settings capture_map (steps ++ more) ≡ seen_of settings capture_map steps ++ seen =
-      filter-append (is_seen settings.selected) steps more ∙ ap (λ (s : List CaptureStep). seen_of settings capture_map steps ++ s) (sym is) in
+      let all : steps_seen settings capture_map (steps ++ more) ≡ steps_seen settings capture_map steps ++ seen =
+      filter-append (is_seen settings.selected) steps more ∙ ap (λ (s : List CaptureStep). steps_seen settings capture_map steps ++ s) (sym is) in
       record {
         came = filed.came ++ later;
         is_timed =
             subst (λ (s : List CaptureStep). Timed (none_handed_in settings capture_map) s (filed.came ++ later) timed'.lasts.items) (sym all)
-            (subst (λ (lasts : List (Option LastBurst)). Timed (none_handed_in settings capture_map) (seen_of settings capture_map steps ++ seen) (filed.came ++ later) lasts)
+            (subst (λ (lasts : List (Option LastBurst)). Timed (none_handed_in settings capture_map) (steps_seen settings capture_map steps ++ seen) (filed.came ++ later) lasts)
             (sym (ap (λ lasts. lasts.items) puts.lasts))
-            (timed_then (none_handed_in settings capture_map) timed.lasts.items (seen_of settings capture_map steps) filed.came filed.is_timed shown.1.timed));
+            (timed_then (none_handed_in settings capture_map) timed.lasts.items (steps_seen settings capture_map steps) filed.came filed.is_timed shown.1.timed));
         whole = subst IsTrue (sym puts.whole) puts.was_whole;
         none_waits = puts.none_waits;
         link = puts.link ∙ filed.link;
@@ -72,7 +72,7 @@ module _ (settings : CaptureSettings) (capture_map : CaptureMap) where
 
   -- what came then is what came before and what waited
   pub filed-came : (steps more seen : List CaptureStep) (written : List ℕ) (timed mid timed' : TimedFrames) (file file' : FrameFile)
-      (filed : HasFiled settings capture_map steps written timed file) (saw : HasSeen timed seen mid) (is : seen ≡ seen_of settings capture_map more) (puts : PutsCame mid file timed' file')
+      (filed : HasFiled settings capture_map steps written timed file) (saw : HasSeen timed seen mid) (is : seen ≡ steps_seen settings capture_map more) (puts : PutsCame mid file timed' file')
       → (filed-more steps more seen written timed mid timed' file file' filed saw is puts).came ≡ filed.came ++ mid.waiting.items
   unfolding filed-more
   filed-came steps more seen written timed mid timed' file file' filed saw is puts =

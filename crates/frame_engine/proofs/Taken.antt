@@ -33,7 +33,7 @@ use Rattle.capture_summary.specs.declared.passed.PassedReason.{PassedReason}
 use Rattle.frame_engine.specs.Settings.{inner_accepts}
 use Rattle.frame_engine.specs.Records.{IsBurstOf, passed_over, one_burst, counted}
 use Rattle.answers.specs.Beside.{is_told_if_given}
-use Rattle.frame_engine.specs.Joined.{made, check, seen_of, ComesOf, IsFileOf, AreFramesAtEnd, AreAllFrames}
+use Rattle.frame_engine.specs.Joined.{made, check, steps_seen, ComesOf, IsFileOf, AreFramesAtEnd, AreAllFrames}
 use Rattle.frame_engine.specs.Reasoned.{answers_in}
 use Rattle.frame_engine.specs.Inside.Joins.{PutsCame, HasFiled, HasTaken, HasEnded, HasJoined, TakesBurst}
 use Rattle.frame_engine.proofs.Filed.{filed-more, filed-came, filed-file, filed-written}
@@ -50,11 +50,11 @@ gave_seen selected (one ∷ more) = by_flag (is_told_if_given selected one) (gav
 
 module _ (settings : CaptureSettings) (capture_map : CaptureMap) where
   -- what is seen by the selection of the flows is seen by that of the settings
-  seen-as : (selected : Selection) → selected ≡ settings.selected → (steps seen : List CaptureStep) → AreSeenOf selected steps seen → seen ≡ seen_of settings capture_map steps
+  seen-as : (selected : Selection) → selected ≡ settings.selected → (steps seen : List CaptureStep) → AreSeenOf selected steps seen → seen ≡ steps_seen settings capture_map steps
   seen-as selected same steps seen are = are ∙ ap (λ (s : Selection). filter (is_seen s) steps) same
 
   rest-as : (selected : Selection) → selected ≡ settings.selected → (given seen : List Given) → seen ≡ filter (is_told_if_given selected) given
-      → map gave seen ≡ seen_of settings capture_map (map gave given)
+      → map gave seen ≡ steps_seen settings capture_map (map gave given)
   rest-as selected same given seen are =
       ap (map gave) are ∙ sym (gave_seen selected given) ∙ ap (λ (s : Selection). filter (is_seen s) (map gave given)) same
 

@@ -150,11 +150,10 @@ has_last : {lasts : List (Option LastBurst)} {steps : List CaptureStep} {timed :
     → hands_in k steps ≡ true → (burst : LastBurst) × (slice_get now k ≡ Some (Some burst))
 has_last k nothing_came is = absurd cc
 has_last k (burst_came {steps = steps} {now = mid} flow burst first small) is = elim (cases_eq flow k) [
-  | inl same ↦
-      (
-        last_burst burst,
-        subst (λ (j : ℕ). slice_get (slice_set mid flow (Some (last_burst burst))) j ≡ Some (Some (last_burst burst))) same (written mid flow (Some (last_burst burst)) small),
-      )
+  | inl same ↦ (
+    last_burst burst,
+    subst (λ (j : ℕ). slice_get (slice_set mid flow (Some (last_burst burst))) j ≡ Some (Some (last_burst burst))) same (written mid flow (Some (last_burst burst)) small),
+  )
   | inr apart ↦
       let only = sym (hands-append k steps (handed_in flow burst ∷ [])) ∙ is in
       let own = ap (λ (b : Bool). hands_in k steps || (b || false)) (ne_eqb flow k apart) in
@@ -262,19 +261,21 @@ module _ (selected : Selection) (link : FrameLink) (channels : List MapChannel) 
         let count : length front ≡ n = omega (arith, length-append front (step ∷ []), ap (λ (s : List CaptureStep). length s) same) in
         let all = ap (filter (is_seen selected)) same ∙ filter-append (is_seen selected) front (step ∷ []) in
         subst (λ (s : List CaptureStep). IsPartOf lasts s timed now) (sym same)
-        (by_flag n lasts front step count timed now (is_seen selected step) refl (subst (λ (s : List CaptureStep). Timed lasts s timed now) all is) follows.0 follows.1)
+        (by_flag lasts front step (λ t mid came. whole_of n lasts front count t mid came follows.0) timed now (is_seen selected step) refl (subst (λ (s : List CaptureStep). Timed lasts s timed now) all is) follows.0 follows.1)
   ] where
-    by_flag : (n : ℕ) (lasts : List (Option LastBurst)) (front : List CaptureStep) (step : CaptureStep) → length front ≡ n → (timed : List TimedStep) (now : List (Option LastBurst)) (b : Bool)
+    by_flag : (lasts : List (Option LastBurst)) (front : List CaptureStep) (step : CaptureStep)
+        → ((t : List TimedStep) (mid : List (Option LastBurst)) → Timed lasts (filter (is_seen selected) front) t mid → IsPartOf lasts front t mid)
+        → (timed : List TimedStep) (now : List (Option LastBurst)) (b : Bool)
         → is_seen selected step ≡ b → Timed lasts (filter (is_seen selected) front ++ (if is_seen selected step then step ∷ [] else [])) timed now → FollowBursts [] front → StepFollows front step
         → IsPartOf lasts (front ++ step ∷ []) timed now
-    by_flag n lasts front step count timed now true seen is follow follows =
+    by_flag lasts front step of_front timed now true seen is follow follows =
         let there = subst (λ (t : List CaptureStep). Timed lasts (filter (is_seen selected) front ++ t) timed now) (shown_if step (is_seen selected step) seen) is in
         let found = last_came selected lasts (filter (is_seen selected) front ++ step ∷ []) (filter (is_seen selected) front) step timed now refl there in
-        with_shown lasts front now step timed found seen (whole_of n lasts front count found.before found.mid found.came follow)
-    by_flag n lasts front step count timed now false out is follow follows =
+        with_shown lasts front now step timed found seen (of_front found.before found.mid found.came)
+    by_flag lasts front step of_front timed now false out is follow follows =
         let there = subst (λ (t : List CaptureStep). Timed lasts t timed now)
         (ap (λ (t : List CaptureStep). filter (is_seen selected) front ++ t) (hidden_if step (is_seen selected step) out) ∙ append-nil (filter (is_seen selected) front)) is in
-        with_hidden lasts front now step timed (whole_of n lasts front count timed now there follow) out follows
+        with_hidden lasts front now step timed (of_front timed now there) out follows
 
   pub whole-of : (lasts : List (Option LastBurst)) (steps : List CaptureStep) (timed : List TimedStep) (now : List (Option LastBurst))
       → Timed lasts (filter (is_seen selected) steps) timed now → FollowBursts [] steps → IsPartOf lasts steps timed now

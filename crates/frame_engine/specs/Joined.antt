@@ -73,15 +73,15 @@ module _ (settings : CaptureSettings) (capture_map : CaptureMap) where
     pub plays : Plays check made [] [] handed steps
 
   -- what is seen of some steps: all but the frames and counts of flows that aren't selected
-  abbrev pub seen_of : List CaptureStep → List CaptureStep
-  seen_of steps = filter (is_seen settings.selected) steps
+  abbrev pub steps_seen : List CaptureStep → List CaptureStep
+  steps_seen steps = filter (is_seen settings.selected) steps
 
   -- **The file of the frames of the selected flows that come of some steps**, each with the burst
   -- of its flow that was handed in last.
   pub record IsFileOf (steps : List CaptureStep) (text : List ℕ) : Type 0 where
     pub timed : List TimedStep
     pub lasts : List (Option LastBurst)
-    pub is_timed : Timed none_handed_in (seen_of steps) timed lasts
+    pub is_timed : Timed none_handed_in (steps_seen steps) timed lasts
     pub text_is : text ≡ whole_file timed
 
   -- so of these bursts, as far as they go

@@ -26,7 +26,7 @@ use Rattle.timed_frames.specs.declared.timed_step.TimedStep.{TimedStep}
 use Rattle.timed_frames.specs.Timed.{Timed}
 use Rattle.frame_engine.specs.declared.settings.CaptureSettings.{CaptureSettings}
 use Rattle.frame_engine.specs.Compared.{Brings, arrivals_of_steps}
-use Rattle.frame_engine.specs.Joined.{made, check, none_handed_in, seen_of, ComesOf, ComesAtEnd}
+use Rattle.frame_engine.specs.Joined.{made, check, none_handed_in, steps_seen, ComesOf, ComesAtEnd}
 use Rattle.frame_engine.specs.Records.{IsBurstOf}
 
 -- what became of each of some bursts when it came, in order
@@ -43,15 +43,15 @@ module _ (settings : CaptureSettings) (capture_map : CaptureMap) where
     pub steps : List CaptureStep
     pub lasts : List (Option LastBurst)
     pub comes : ComesOf settings capture_map bursts handed flows steps
-    pub is_timed : Timed (none_handed_in settings capture_map) (seen_of settings capture_map steps) timed lasts
+    pub is_timed : Timed (none_handed_in settings capture_map) (steps_seen settings capture_map steps) timed lasts
 
   -- so when nothing more comes: what waited was handed in, and then the receiver was closed
   pub data ComesTimedAtEnd (bursts : List CapturedBurst) (timed : List TimedStep) : Type 0 where
     waiting_ended : (handed : List Act) (steps : List CaptureStep) (lasts : List (Option LastBurst)) → ComesAtEnd settings capture_map bursts handed steps
-        → Timed (none_handed_in settings capture_map) (seen_of settings capture_map steps) timed lasts → ComesTimedAtEnd bursts timed
+        → Timed (none_handed_in settings capture_map) (steps_seen settings capture_map steps) timed lasts → ComesTimedAtEnd bursts timed
     receiver_closed : (handed : List Act) (steps : List CaptureStep) (rest : List Given) (closed : Closed) (lasts : List (Option LastBurst)) → ComesAtEnd settings capture_map bursts handed steps
         → IsReceived (check settings capture_map) (made settings capture_map) (items_of handed) (given_in steps ++ rest) closed
-        → Timed (none_handed_in settings capture_map) (seen_of settings capture_map (steps ++ map gave rest)) timed lasts → ComesTimedAtEnd bursts timed
+        → Timed (none_handed_in settings capture_map) (steps_seen settings capture_map (steps ++ map gave rest)) timed lasts → ComesTimedAtEnd bursts timed
 
   -- the frames that are listed as only the analyser's, once these came to be compared
   abbrev pub missing_of : List Arrival → List ShownFrame

@@ -5,7 +5,8 @@ use thiserror::Error;
 /// Why something isn't taken to the end. After it nothing more is to be taken.
 #[derive(Clone, Copy, Debug, PartialEq, Eq, Error)]
 pub enum FlowFault {
-    /// The receiver has no such flow or no such channel.
+    /// The receiver has no such flow or no such channel, or a segment came of something that was to
+    /// bring none of its flow.
     #[error("the receiver has no such flow or channel")]
     NotThere,
     /// An allocation failed.

@@ -60,8 +60,7 @@ fn without_payload(input: Input) -> Input
 /// These numbers are bytes.
 fn are_bytes(bytes: &[u8])
     ensures { All (λ byte. byte < 256) bytes.now }
-{
-}
+{}
 
 /// What a burst carries is of bytes, which costs nothing to know.
 fn has_bytes(input: &Input)

@@ -6,8 +6,8 @@ use captured_flows::{CaptureConsumer, CapturedFlows, FlowFault, SoundBurst, Wait
 use consumer::Consumer;
 use docsis_wire::{Bytes, NoCheck};
 use flow_core::FlowCounts;
-use lane::Request;
 use flow_selection::Selection;
+use lane::Request;
 use loss_rule::LossRule;
 use receiver::{Reply, SetupError};
 use std::alloc::Global;
@@ -91,7 +91,14 @@ fn kept_of_all(alloc: Global, log: &mut Log) -> Result<u64, FlowFault> {
     };
     let bursts = bursts_of_each_kind(alloc)?;
     let map = map_of(alloc, Some(5), 16, 1)?;
-    let mut captured = match CapturedFlows::new(alloc, map, LossRule::Decided, waits, Selection::All, NoCheck) {
+    let mut captured = match CapturedFlows::new(
+        alloc,
+        map,
+        LossRule::Decided,
+        waits,
+        Selection::All,
+        NoCheck,
+    ) {
         Ok(captured) => captured,
         Err(SetupError::OutOfMemory) => return Err(FlowFault::OutOfMemory),
         Err(_) => return Err(FlowFault::NotThere),

@@ -9,8 +9,8 @@ use captured_flows::{
 use consumer::Consumer;
 use docsis_wire::{Bytes, NoCheck};
 use flow_core::FlowCounts;
-use lane::Request;
 use flow_selection::Selection;
+use lane::Request;
 use loss_rule::LossRule;
 use receiver::{Closed, Reply, SegmentVerdict};
 use std::alloc::{AllocError, Global};
@@ -163,7 +163,14 @@ fn bursts_are_passed_over_refused_and_handed_in(rt: HostRuntime) -> Result<(), F
         wait: 20,
     };
     let map = map_of(alloc, Some(5), 16, 1)?;
-    let mut captured = CapturedFlows::new(alloc, map, LossRule::PassedOrSlid, waits, Selection::All, NoCheck)?;
+    let mut captured = CapturedFlows::new(
+        alloc,
+        map,
+        LossRule::PassedOrSlid,
+        waits,
+        Selection::All,
+        NoCheck,
+    )?;
     let mut noted = Noted::new(alloc);
     let unknown = captured.take(alloc, burst(alloc, 0, 101, 5, true)?, &mut noted)?;
     assert!(rt; unknown == BurstTaken::UnknownChannel);
@@ -195,7 +202,14 @@ fn clocks_of_all_flows_are_counted(rt: HostRuntime) -> Result<(), Fail> {
         wait: 20,
     };
     let map = map_of(alloc, Some(5), 16, 1)?;
-    let mut captured = CapturedFlows::new(alloc, map, LossRule::PassedOrSlid, waits, Selection::All, NoCheck)?;
+    let mut captured = CapturedFlows::new(
+        alloc,
+        map,
+        LossRule::PassedOrSlid,
+        waits,
+        Selection::All,
+        NoCheck,
+    )?;
     let mut noted = Noted::new(alloc);
     assert!(rt; captured.clock_counts() == ClockCounts::none());
     // What waits is handed on where the clock is set back, and not where it goes back by 2.
@@ -290,7 +304,14 @@ fn what_is_given_stands_behind_its_burst(rt: HostRuntime) -> Result<(), Fail> {
         wait: 20,
     };
     let map = map_of(alloc, Some(5), 16, 1)?;
-    let mut captured = CapturedFlows::new(alloc, map, LossRule::Decided, waits, Selection::All, NoCheck)?;
+    let mut captured = CapturedFlows::new(
+        alloc,
+        map,
+        LossRule::Decided,
+        waits,
+        Selection::All,
+        NoCheck,
+    )?;
     let mut noted = Noted::new(alloc);
     captured.take_all(alloc, bursts_of_each_kind(alloc)?, &mut noted)?;
     captured.end_waiting(alloc, &mut noted)?;
@@ -309,7 +330,14 @@ fn what_became_of_a_burst_is_replied(rt: HostRuntime) -> Result<(), Fail> {
         wait: 20,
     };
     let map = map_of(alloc, Some(5), 16, 1)?;
-    let mut captured = CapturedFlows::new(alloc, map, LossRule::Decided, waits, Selection::All, NoCheck)?;
+    let mut captured = CapturedFlows::new(
+        alloc,
+        map,
+        LossRule::Decided,
+        waits,
+        Selection::All,
+        NoCheck,
+    )?;
     let mut noted = Noted::new(alloc);
     let bursts = vec![in alloc;
         burst_with(alloc, 1, 5, 0, &frame_of(1))?,

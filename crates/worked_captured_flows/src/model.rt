@@ -58,7 +58,14 @@ fn answer(alloc: Global, case: &[u64]) -> Result<Option<Vec<u64>>, Fail> {
         (*window % 65_536) as u16,
         (*channels % 17) as u8,
     )?;
-    let mut captured = CapturedFlows::new(alloc, map, rule_of(*rule), waits, Selection::All, NoCheck)?;
+    let mut captured = CapturedFlows::new(
+        alloc,
+        map,
+        rule_of(*rule),
+        waits,
+        Selection::All,
+        NoCheck,
+    )?;
     let mut noted = Noted::new(alloc);
     captured.take_all(alloc, bursts_of(alloc, came)?, &mut noted)?;
     captured.end_waiting(alloc, &mut noted)?;

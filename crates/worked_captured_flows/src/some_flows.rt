@@ -74,8 +74,7 @@ fn seen_where(
         wait: 20,
     };
     let map = map_of_two(alloc)?;
-    let mut captured =
-        CapturedFlows::new(alloc, map, LossRule::Decided, waits, selected, NoCheck)?;
+    let mut captured = CapturedFlows::new(alloc, map, LossRule::Decided, waits, selected, NoCheck)?;
     let mut noted = Noted::new(alloc);
     captured.take_all(alloc, bursts_of_two(alloc)?, &mut noted)?;
     captured.end_waiting(alloc, &mut noted)?;

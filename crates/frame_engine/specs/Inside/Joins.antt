@@ -24,7 +24,7 @@ use Rattle.frame_engine.specs.declared.frame_reading.FrameReading.{FrameReading}
 use Rattle.frame_engine.specs.Settings.{inner_accepts}
 use Rattle.frame_engine.specs.Records.{AreBurstsOf, counted}
 use Rattle.frame_engine.specs.Written.{written_in}
-use Rattle.frame_engine.specs.Joined.{made, check, none_handed_in, seen_of, whole_file, ComesOf, ComesAtEnd, AreFramesSoFar, AreFramesAtEnd, AreAllFrames, IsJoinedSoFar, IsJoinedFile}
+use Rattle.frame_engine.specs.Joined.{made, check, none_handed_in, steps_seen, whole_file, ComesOf, ComesAtEnd, AreFramesSoFar, AreFramesAtEnd, AreAllFrames, IsJoinedSoFar, IsJoinedFile}
 use Rattle.frame_engine.specs.Joining.{AreInFront, IsBehindThem, IsJoinedTill}
 
 -- a file's link type and channels stay, and so what isn't written of it yet
@@ -47,7 +47,7 @@ module _ (settings : CaptureSettings) (capture_map : CaptureMap) where
   -- what came of these steps is in the file, of which this was written
   pub record HasFiled (steps : List CaptureStep) (written : List ℕ) (timed : TimedFrames) (file : FrameFile) : Type 0 where
     pub came : List TimedStep
-    pub is_timed : Timed (none_handed_in settings capture_map) (seen_of settings capture_map steps) came timed.lasts.items
+    pub is_timed : Timed (none_handed_in settings capture_map) (steps_seen settings capture_map steps) came timed.lasts.items
     pub whole : IsTrue timed.whole
     pub none_waits : timed.waiting.items ≡ []
     pub link : file.link ≡ settings.link

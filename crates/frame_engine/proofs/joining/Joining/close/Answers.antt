@@ -15,19 +15,19 @@ use Rattle.frame_engine.proofs.joining.Joining.close.Goals as goal
 
 pub returns-in-Ok-clause-closed : goal.returns-in-Ok-clause-closed
 returns-in-Ok-clause-closed c =
-    let closes = subst (λ (receiver : SelectedReceiver InnerCheck). ClosesOfWhole inner_accepts HasGiven receiver c.args.self.timed c.in-Ok.closed c.close.new.out) c.into_receiver.ensures c.in-Ok.ensures.closes in
+    let closes = subst (λ (receiver : SelectedReceiver InnerCheck). ClosesOfWhole inner_accepts HasGiven receiver c.args.self.timed c.in-Ok.closed c.close-selected.new.out) c.into_receiver.ensures c.in-Ok.ensures.closes in
     on_ok_weaker c.put_came-put.result
     (λ puts. λ settings capture_map bursts written has.
-    ended-closed settings capture_map bursts written c.args.self c.close.new.out c.put_came-put.new.timed c.put_came-put.new.file c.in-Ok.closed has closes puts)
+    ended-closed settings capture_map bursts written c.args.self c.close-selected.new.out c.put_came-put.new.timed c.put_came-put.new.file c.in-Ok.closed has closes puts)
     c.put_came-put.ensures.put
 
 pub returns-in-Ok-clause-compared : goal.returns-in-Ok-clause-compared
 returns-in-Ok-clause-compared c =
-    let closes = subst (λ (receiver : SelectedReceiver InnerCheck). ClosesOfWhole inner_accepts HasGiven receiver c.args.self.timed c.in-Ok.closed c.close.new.out) c.into_receiver.ensures c.in-Ok.ensures.closes in
+    let closes = subst (λ (receiver : SelectedReceiver InnerCheck). ClosesOfWhole inner_accepts HasGiven receiver c.args.self.timed c.in-Ok.closed c.close-selected.new.out) c.into_receiver.ensures c.in-Ok.ensures.closes in
     three-ok c.put_came-put.result
     (λ puts takes explains. λ settings capture_map records bursts written has.
-    closed-beside settings capture_map records bursts written c.args.self c.close.new.out c.put_came-put.new.timed c.put_came-put.new.file c.in-Ok.closed c.args.comparing.now
+    closed-beside settings capture_map records bursts written c.args.self c.close-selected.new.out c.put_came-put.new.timed c.put_came-put.new.file c.in-Ok.closed c.args.comparing.now
     c.put_came-put.new.comparing has closes puts
-    (subst (λ (selected : Selection). Takes (arrivals_of_steps selected c.close.new.out.waiting.items) c.args.comparing.now c.put_came-put.new.comparing)
-    (c.close.ensures.selected ∙ ap (λ (receiver : SelectedReceiver InnerCheck). receiver.selected) c.into_receiver.ensures) takes) explains)
+    (subst (λ (selected : Selection). Takes (arrivals_of_steps selected c.close-selected.new.out.waiting.items) c.args.comparing.now c.put_came-put.new.comparing)
+    (c.close-selected.ensures.selected ∙ ap (λ (receiver : SelectedReceiver InnerCheck). receiver.selected) c.into_receiver.ensures) takes) explains)
     c.put_came-put.ensures.put c.put_came-put.ensures.compared c.put_came-put.ensures.explained
