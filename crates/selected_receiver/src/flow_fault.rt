@@ -1,4 +1,6 @@
 //! Why something isn't taken to the end.
+ghost use Rattle.std.specs.Prelude.{◌≡◌};
+
 use std::alloc::{AllocError, AllocFailed};
 use thiserror::Error;
 
@@ -15,12 +17,20 @@ pub enum FlowFault {
 }
 
 impl From<AllocError> for FlowFault {
+    ghost use Rattle.selected_receiver.specs.declared.flow_fault.FlowFault.TheVariants.{OutOfMemory};
+
+    ghost from_gives = { λ _ fault. fault ≡ OutOfMemory };
+
     fn from(_: AllocError) -> FlowFault {
         FlowFault::OutOfMemory
     }
 }
 
 impl<T: Drop> From<AllocFailed<T>> for FlowFault {
+    ghost use Rattle.selected_receiver.specs.declared.flow_fault.FlowFault.TheVariants.{OutOfMemory};
+
+    ghost from_gives = { λ _ fault. fault ≡ OutOfMemory };
+
     fn from(_: AllocFailed<T>) -> FlowFault {
         FlowFault::OutOfMemory
     }

@@ -1,5 +1,5 @@
 //! The receiver that is handed in stand-ins.
-ghost use Rattle.std.specs.Prelude.{All, ◌≡◌, ◌<◌, ◌≤◌, ◌↔◌, ◌∷◌, [], ℕ, Bool, List, true, Some, None, IfOk, IfErr, IfSome, OnErr, length, slice_get};
+ghost use Rattle.std.specs.Prelude.{All, ◌≡◌, ◌<◌, ◌≤◌, ◌↔◌, ◌⊎◌, ◌∷◌, [], ℕ, Bool, List, true, Some, None, IfOk, IfErr, IfSome, OnErr, length, slice_get};
 ghost use Rattle.flow_records.specs.declared.record.FlowRecord.{FlowRecord};
 ghost use Rattle.reorder.specs.Limits.{modulus};
 ghost use Rattle.flow_selection.specs.Selection.{is_selected};
@@ -12,6 +12,9 @@ ghost use Rattle.receiver.specs.HandedIn.{HandedIn, decided};
 ghost use Rattle.receiver.specs.Receiving.{StandsFor, IsReceiving, IsSettledAt, HasGivenSince};
 ghost use Rattle.receiver.specs.Received.{IsBeingClosed};
 ghost use Rattle.selected_receiver.specs.StandIns.{MayStandIn};
+ghost use Rattle.selected_receiver.specs.declared.flow_fault.FlowFault.{FlowFault};
+ghost use Rattle.receiver.specs.declared.reply.TakeError.{TakeError};
+ghost use Rattle.lane.specs.declared.input.Input.{Input};
 ghost use Rattle.selected_receiver.specs.Whole.{StandsForWhole, IsReceivingWhole, IsAtHand};
 ghost use Rattle.selected_receiver.specs.Taking.{ExpectsOfWhole, TakesWhole, TakesSomeOfWhole, RepliesOfWhole};
 ghost use Rattle.selected_receiver.specs.Taking.{RestartsOfWhole, ClosesOfWhole};
@@ -90,7 +93,9 @@ fn stand_in<C: HeaderCheck + Drop>(
 }
 
 /// Why an input wasn't taken, or not to the end.
-fn fault_of(error: &TakeError) -> FlowFault {
+fn fault_of(error: &TakeError) -> FlowFault
+    ensures { result ≡ FlowFault.NotThere → (back : Input) × (error.now ≡ TakeError.NoChannel back) }
+{
     match error {
         TakeError::NoChannel(_) => FlowFault::NotThere,
         TakeError::NotTaken(_, _) | TakeError::Unfinished { .. } => FlowFault::OutOfMemory,
@@ -124,6 +129,8 @@ impl<C: HeaderCheck + Drop> SelectedReceiver<C> {
         requires { IsAtHand C.accepts self.now }
         ensures expects { IfOk result (ExpectsOfWhole C.accepts self.now flow) }
         ensures in_range { IfOk result (λ number. number < modulus) }
+        ensures fault { IfErr result (λ fault. (fault ≡ FlowFault.NotThere)
+            × (length self.now.receiver.flows.slots.items ≤ flow)) }
     {
         match self.receiver.expected(flow) {
             Some(number) => Ok(number),
@@ -145,6 +152,7 @@ impl<C: HeaderCheck + Drop> SelectedReceiver<C> {
         ensures at_hand { IfOk result (λ _. IsAtHand C.accepts self.new) }
         ensures fails { OnErr result
             (TakesSomeOfWhole C.accepts O.after self.old out.old self.new out.new) }
+        ensures fault { IfErr result (λ fault. fault ≡ FlowFault.OutOfMemory) }
         ensures receiving { IsReceivingWhole C.accepts self.new }
         ensures selected { self.new.selected ≡ self.old.selected }
     {
@@ -171,6 +179,8 @@ impl<C: HeaderCheck + Drop> SelectedReceiver<C> {
         ensures at_hand { IfOk result (λ _. IsAtHand C.accepts self.new) }
         ensures fails { OnErr result
             (TakesSomeOfWhole C.accepts O.after self.old out.old self.new out.new) }
+        ensures fault { IfErr result (λ fault. fault ≡ FlowFault.NotThere
+            → (length self.old.receiver.flows.slots.items ≤ flow) ⊎ (modulus ≤ first)) }
         ensures receiving { IsReceivingWhole C.accepts self.new }
         ensures selected { self.new.selected ≡ self.old.selected }
     {
@@ -197,6 +207,8 @@ impl<C: HeaderCheck + Drop> SelectedReceiver<C> {
         ensures at_hand { IfOk result (λ _. IsAtHand C.accepts self.new) }
         ensures fails { OnErr result
             (TakesSomeOfWhole C.accepts O.after self.old out.old self.new out.new) }
+        ensures fault { IfErr result (λ fault. fault ≡ FlowFault.NotThere
+            → length self.old.receiver.lanes.items ≤ channel) }
         ensures receiving { IsReceivingWhole C.accepts self.new }
         ensures selected { self.new.selected ≡ self.old.selected }
     {

@@ -1,6 +1,8 @@
 -- The receiver was closed.
-use Rattle.std.proofs.Common.{subst, ap, ◌∙◌}
+use Rattle.std.proofs.Common.{Result, IfOk, subst, ap, ◌∙◌}
 use Rattle.std.proofs.lemmas.Result.{on_ok_weaker}
+use Rattle.receiver.specs.declared.closing.Closed.{Closed}
+use Rattle.receiver.specs.declared.closing.Closing.{Closing}
 use Rattle.selected_receiver.specs.Taking.{ClosesOfWhole}
 use Rattle.selected_receiver.specs.declared.selected_receiver.SelectedReceiver.{SelectedReceiver}
 use Rattle.flow_selection.specs.declared.selection.Selection.{Selection}
@@ -15,7 +17,9 @@ use Rattle.frame_engine.proofs.joining.Joining.close.Goals as goal
 
 pub returns-in-Ok-clause-closed : goal.returns-in-Ok-clause-closed
 returns-in-Ok-clause-closed c =
-    let closes = subst (λ (receiver : SelectedReceiver InnerCheck). ClosesOfWhole inner_accepts HasGiven receiver c.args.self.timed c.in-Ok.closed c.close-selected.new.out) c.into_receiver.ensures c.in-Ok.ensures.closes in
+    let closes = subst (λ (receiver : SelectedReceiver InnerCheck). ClosesOfWhole inner_accepts HasGiven receiver c.args.self.timed c.in-Ok.closed c.close-selected.new.out) c.into_receiver.ensures
+    (subst (λ (closed : Result Closed (Closing InnerCheck)). IfOk closed (λ closed. ClosesOfWhole inner_accepts HasGiven c.into_receiver.result c.args.self.timed closed c.close-selected.new.out)) c.in-Ok.is
+    c.close-selected.ensures.closes) in
     on_ok_weaker c.put_came-put.result
     (λ puts. λ settings capture_map bursts written has.
     ended-closed settings capture_map bursts written c.args.self c.close-selected.new.out c.put_came-put.new.timed c.put_came-put.new.file c.in-Ok.closed has closes puts)
@@ -23,7 +27,9 @@ returns-in-Ok-clause-closed c =
 
 pub returns-in-Ok-clause-compared : goal.returns-in-Ok-clause-compared
 returns-in-Ok-clause-compared c =
-    let closes = subst (λ (receiver : SelectedReceiver InnerCheck). ClosesOfWhole inner_accepts HasGiven receiver c.args.self.timed c.in-Ok.closed c.close-selected.new.out) c.into_receiver.ensures c.in-Ok.ensures.closes in
+    let closes = subst (λ (receiver : SelectedReceiver InnerCheck). ClosesOfWhole inner_accepts HasGiven receiver c.args.self.timed c.in-Ok.closed c.close-selected.new.out) c.into_receiver.ensures
+    (subst (λ (closed : Result Closed (Closing InnerCheck)). IfOk closed (λ closed. ClosesOfWhole inner_accepts HasGiven c.into_receiver.result c.args.self.timed closed c.close-selected.new.out)) c.in-Ok.is
+    c.close-selected.ensures.closes) in
     three-ok c.put_came-put.result
     (λ puts takes explains. λ settings capture_map records bursts written has.
     closed-beside settings capture_map records bursts written c.args.self c.close-selected.new.out c.put_came-put.new.timed c.put_came-put.new.file c.in-Ok.closed c.args.comparing.now
