@@ -59,7 +59,7 @@ def measured_shards(segrx, room):
         out.write(MAP)
     costs = {}
     for size, (name, words) in itertools.product(SIZES, WORDS.items()):
-        is_told = name != "of one that leaves it out"
+        is_told = words != WORDS["of one that leaves it out"]
         ways = {command: ([command, *words], trace, has_admitted) for command in ("replay", "follow")}
         ways["capture"] = ["capture", file, *words], capture, functools.partial(has_its_frames, is_told, size)
         for command, (asked, made, is_right) in ways.items():

@@ -6,7 +6,7 @@ use capture_map::{CaptureMap, MapFlow, MapSid};
 use captured_flows::{CapturedBurst, CapturedFlows, Waits};
 use docsis_wire::{Bytes, NoCheck};
 use flow_core::FlowCounts;
-use flow_selection::{Selection, Shard};
+use flow_selection::{FlowList, FlowRange, Selection, Shard};
 use loss_rule::LossRule;
 use std::alloc::{AllocError, Global};
 use std::test::Fail;
@@ -28,58 +28,76 @@ fn map_of_two(alloc: Global) -> Result<CaptureMap, AllocError> {
     Ok(map)
 }
 
-/// The bytes of a segment whose header has no pointer.
-fn begins_none(mut bytes: Vec<u8>) -> Vec<u8> {
-    if let Some(first) = bytes.first_mut() {
-        *first = 0;
+/// The bytes of a segment in which the first frame begins at this byte of what it carries.
+fn begins_at(mut bytes: Vec<u8>, place: u8) -> Vec<u8> {
+    if let [_, pointer, ..] = bytes.as_mut_slice() {
+        *pointer = place;
     }
     bytes
 }
 
-/// Two frames of the second flow in three segments between two of the first, then one segment of
-/// each that begins it anew: the flow's index, the number, the request and what is carried.
+/// Three frames of the second flow in two segments between two of the first; then one segment of it
+/// is spoiled, and lost where the next comes too late to wait for it; and last a segment of each
+/// begins it anew. The flow's index, the number, the request and what is carried.
 fn bursts_of_two(alloc: Global) -> Result<Vec<CapturedBurst>, AllocError> {
-    let begun = frame_of(61);
-    let cuts: [(usize, u16, u8, &[u8]); 7] = [
+    let mut all = Vec::new(alloc);
+    for last in [61, 62, 63] {
+        all.extend_from_slice(&frame_of(last))?;
+    }
+    let cuts: [(usize, u16, u8, &[u8]); 8] = [
         (0, 5, 9, &frame_of(51)),
-        (1, 5, 0, &begun[..3]),
-        (1, 6, 4, &begun[3..]),
+        (1, 5, 0, &all[..3]),
+        (1, 6, 4, &all[3..]),
         (0, 6, 0, &frame_of(52)),
-        (1, 7, 0, &frame_of(62)),
-        (1, 500, 0, &frame_of(63)),
+        (1, 7, 0, &frame_of(64)),
+        (1, 8, 0, &frame_of(65)),
+        (1, 500, 0, &frame_of(66)),
         (0, 500, 0, &frame_of(53)),
     ];
     let mut bursts = Vec::new(alloc);
     let mut time = 0;
     for (flow, number, requested, payload) in cuts {
-        time = if number < 500 { time + 1 } else { time + 90 };
+        time = if number == 8 {
+            time + 30
+        } else if number < 500 {
+            time + 1
+        } else {
+            time + 90
+        };
         let mut burst = burst_with(alloc, time, number, requested, payload)?;
         burst.sid = if flow == 0 { 7 } else { 8 };
+        burst.check = number != 7;
         if (flow, number) == (1, 6) {
-            // No frame begins in it.
-            burst.bytes = Bytes::from(begins_none(burst.bytes.into_vec()));
+            burst.bytes = Bytes::from(begins_at(burst.bytes.into_vec(), 5));
         }
         bursts.push(burst)?;
     }
     Ok(bursts)
 }
 
-/// What is seen where these flows are selected, and what was counted of both in the end.
-fn seen_where(
-    alloc: Global,
-    selected: Selection,
-) -> Result<(Noted, [Option<FlowCounts>; 2]), Fail> {
+/// What is seen where these flows are selected, until all is closed, and what is counted of both
+/// before the first begins anew, and at the close.
+fn seen_where(alloc: Global, selected: Selection) -> Result<(Noted, Vec<FlowCounts>), Fail> {
     let waits = Waits {
         reorder: 0,
         wait: 20,
     };
     let map = map_of_two(alloc)?;
     let mut captured = CapturedFlows::new(alloc, map, LossRule::Decided, waits, selected, NoCheck)?;
-    let mut noted = Noted::new(alloc);
-    captured.take_all(alloc, bursts_of_two(alloc)?, &mut noted)?;
+    let (mut noted, mut counts) = (Noted::new(alloc), Vec::new(alloc));
+    for burst in bursts_of_two(alloc)? {
+        let begins_anew = burst.time > 100;
+        if begins_anew && counts.is_empty() {
+            counts.extend(captured.counts(0))?;
+            counts.extend(captured.counts(1))?;
+        }
+        captured.take(alloc, burst, &mut noted)?;
+    }
     captured.end_waiting(alloc, &mut noted)?;
-    let receiver = captured.into_receiver();
-    Ok((noted, [receiver.counts(0), receiver.counts(1)]))
+    if let Ok(closed) = captured.into_receiver().close(alloc, &mut noted).1 {
+        counts.extend_from_slice(&closed.flows)?;
+    }
+    Ok((noted, counts))
 }
 
 /// Whether this is told where this flow alone is selected.
@@ -90,30 +108,41 @@ fn is_told_of(flow: usize, one: &Seen) -> bool {
     }
 }
 
+/// Selections of the first flow alone, and of the second.
+fn selections(alloc: Global) -> Result<[(usize, Selection); 3], AllocError> {
+    let shard = |remainder| {
+        Selection::Shard(Shard {
+            remainder,
+            count: 2,
+        })
+    };
+    let range = FlowRange { first: 1, last: 9 };
+    let listed = FlowList::new(alloc, vec![in alloc; range]?)?;
+    Ok([(0, shard(0)), (1, shard(1)), (1, Selection::Listed(listed))])
+}
+
 #[test]
 fn nothing_of_other_flows_is_joined(rt: HostRuntime) -> Result<(), Fail> {
     let alloc = rt.alloc();
-    let (whole, counted) = seen_where(alloc, Selection::All)?;
-    let frames = |counts: &Option<FlowCounts>| counts.as_ref().map(|counts| counts.frames);
-    // Of each of 7 bursts two things, 2 requests, 6 frames, and each flow begins anew once.
-    assert!(rt; whole.is_whole && whole.seen.len() == 24);
-    assert!(rt; frames(&counted[0]) == Some(1) && frames(&counted[1]) == Some(1));
-    for (flow, other) in [(0, 1), (1, 0)] {
-        let shard = Shard {
-            remainder: if flow == 0 { 0 } else { 1 },
-            count: 2,
-        };
-        let (noted, counts) = seen_where(alloc, Selection::Shard(shard))?;
+    let (whole, all) = seen_where(alloc, Selection::All)?;
+    // Of each of 7 bursts two things, 2 requests, 8 frames, and each flow begins anew once.
+    assert!(rt; whole.is_whole && whole.seen.len() == 26 && all.len() == 4);
+    assert!(rt; all.iter().all(|counted| counted.frames > 0));
+    for (flow, selected) in selections(alloc)? {
+        let (noted, counts) = seen_where(alloc, selected)?;
         let mut wanted = Vec::new(alloc);
         for one in &whole.seen {
             if is_told_of(flow, one) {
                 wanted.push(*one)?;
             }
         }
-        assert!(rt; noted.is_whole);
+        assert!(rt; noted.is_whole && counts.len() == 4);
         assert!(rt; noted.seen.as_slice() == wanted.as_slice());
-        assert!(rt; counts[flow] == counted[flow]);
-        assert!(rt; frames(&counts[other]) == Some(0));
+        for (place, (one, counted)) in counts.iter().zip(&all).enumerate() {
+            let is_selected = place % 2 == flow;
+            assert!(rt; one.frames == if is_selected { counted.frames } else { 0 });
+            assert!(rt; one.kept == counted.kept && one.lost == counted.lost);
+        }
     }
     Ok(())
 }
