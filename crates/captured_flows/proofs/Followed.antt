@@ -1,8 +1,8 @@
 -- Frames come behind the bursts of their flows.
-use Rattle.std.proofs.Common.{◌≡◌, ◌≢◌, ℕ, ◌<◌, ◌≤◌, ◌==◌, inl, inr, Bool, true, false, Option, Some, None, Ok, List, [], ◌∷◌, ◌++◌, length, map, refl, sym, ap, subst, ◌∙◌, append-nil, append_assoc, eq-eqb, arith}
-use Rattle.std.specs.Prelude.{◌||◌, slice_get, if◌then◌else◌}
+use Rattle.std.proofs.Common.{◌≡◌, ◌≢◌, ℕ, ◌<◌, ◌==◌, inl, inr, Bool, true, false, Option, Some, None, List, [], ◌∷◌, ◌++◌, length, map, refl, sym, ap, subst, ◌∙◌, append-nil, append_assoc, eq-eqb, arith}
+use Rattle.std.specs.Prelude.{◌||◌, if◌then◌else◌}
 use Rattle.std.specs.List.{AllByRecursion, cons_option}
-use Rattle.std.proofs.lemmas.Bool.{cases_lt, eqb-true}
+use Rattle.std.proofs.lemmas.Bool.{cases_lt}
 use Rattle.std.proofs.lemmas.List.Elements.{filter_map-append}
 use Rattle.docsis_wire.proofs.StreamPlaces.{element_at}
 use Rattle.consumer.specs.declared.given.Given.{Given}
@@ -13,15 +13,15 @@ use Rattle.lane.specs.declared.admitted.Admitted.{Admitted}
 use Rattle.lane.specs.Inputs.{Answer}
 use Rattle.lane.specs.Report.{admitted_by}
 use Rattle.receiver.specs.declared.closing.Closed.{Closed}
-use Rattle.receiver.specs.HandedIn.{HandedIn, flow_inputs}
+use Rattle.receiver.specs.HandedIn.{flow_inputs}
 use Rattle.receiver.specs.Received.{IsReceived}
 use Rattle.answers.proofs.Everywhere.{all_append}
 use Rattle.selected_receiver.proofs.NoSegments.{IsNoneOf, inputs-none, given-none, closed-none}
-use Rattle.captured_flows.specs.Acts.{Act, item_of, items_of}
+use Rattle.captured_flows.specs.Acts.{Act, items_of}
 use Rattle.captured_flows.specs.Steps.{CaptureStep, handed_in, gave, replied, began_anew, given_in}
 use Rattle.captured_flows.specs.Plays.{IsGivenFor, IsMove, skips_to, is_unsound, is_told, begins_again, Plays, nothing, one_move}
-use Rattle.captured_flows.specs.Followed.{hands_in, IsBehindBurst, StepFollows, FollowBursts}
-use Rattle.captured_flows.proofs.Seen.{items-append, given-append, given-gave}
+use Rattle.captured_flows.specs.Followed.{hands_in, IsBehindBurst, FollowBursts}
+use Rattle.captured_flows.proofs.Seen.{items-append}
 
 -- ---- what is handed in in steps
 

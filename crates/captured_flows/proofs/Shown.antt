@@ -1,13 +1,11 @@
 -- What is seen of what happens where some flows are selected.
 use Rattle.std.specs.Prelude.{if◌then◌else◌}
-use Rattle.std.proofs.Common.{◌≡◌, ℕ, Bool, true, false, cond, inl, inr, List, [], ◌∷◌, ◌++◌, map, filter, refl, ap, sym, ◌∙◌}
-use Rattle.std.proofs.lemmas.Bool.{cases_Bool}
+use Rattle.std.proofs.Common.{◌≡◌, ℕ, Bool, true, false, cond, List, [], ◌∷◌, ◌++◌, map, filter, refl, ap, sym, ◌∙◌}
 use Rattle.std.proofs.lemmas.List.Elements.{filter-append}
 use Rattle.flow_core.specs.declared.counts.FlowCounts.{FlowCounts}
 use Rattle.flow_selection.specs.declared.selection.Selection.{Selection}
 use Rattle.flow_selection.specs.Selection.{is_selected}
 use Rattle.consumer.specs.declared.given.Given.{Given}
-use Rattle.consumer.specs.declared.given.Given.TheVariants.{Frame}
 use Rattle.answers.specs.Beside.{is_told_if_given}
 use Rattle.selected_receiver.specs.Taking.{seen_of}
 use Rattle.captured_flows.specs.Steps.{CaptureStep, gave, began_anew}

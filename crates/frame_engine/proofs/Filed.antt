@@ -1,5 +1,5 @@
 -- What came is in the file.
-use Rattle.std.proofs.Common.{◌≡◌, ℕ, Option, List, [], ◌∷◌, ◌++◌, IsTrue, refl, sym, ap, subst, ◌∙◌, append-nil, append_assoc}
+use Rattle.std.proofs.Common.{◌≡◌, ℕ, Option, List, [], ◌++◌, IsTrue, sym, ap, subst, ◌∙◌, append-nil, append_assoc}
 use Rattle.std.proofs.lemmas.Grind.{flat_map-append}
 use Rattle.std.proofs.lemmas.List.Elements.{filter-append}
 use Rattle.capture.specs.Pcap.{header_bytes}
@@ -7,22 +7,18 @@ use Rattle.capture_map.specs.declared.map.CaptureMap.{CaptureMap}
 use Rattle.capture_map.specs.declared.map.MapChannel.{MapChannel}
 use Rattle.captured_flows.specs.Shown.{is_seen}
 use Rattle.captured_flows.specs.Steps.{CaptureStep}
-use Rattle.flow_selection.specs.declared.selection.Selection.{Selection}
-use Rattle.flow_selection.specs.declared.selection.Selection.TheVariants.{All}
-use Rattle.flow_selection.specs.Lines.{is_left}
 use Rattle.frame_records.specs.Frames.{file_header}
 use Rattle.frame_records.specs.declared.link.FrameLink.{FrameLink}
 use Rattle.timed_frames.specs.declared.timed_step.LastBurst.{LastBurst}
 use Rattle.timed_frames.specs.declared.timed_step.TimedStep.{TimedStep}
-use Rattle.timed_frames.specs.declared.timed_step.TimedStep.TheVariants.{HandedIn, Frame, Asked, Replied, Ended}
 use Rattle.timed_frames.specs.declared.timed_frames.TimedFrames.{TimedFrames}
 use Rattle.timed_frames.specs.Timed.{Timed}
 use Rattle.timed_frames.specs.Seen.{HasSeen}
 use Rattle.timed_frames.specs.Timing.{timed_then}
 use Rattle.frame_engine.specs.declared.settings.CaptureSettings.{CaptureSettings}
 use Rattle.frame_engine.specs.declared.frame_file.FrameFile.{FrameFile}
-use Rattle.frame_engine.specs.Written.{flow_of_frame, written_of, written_in, steps_left, left_in}
-use Rattle.frame_engine.specs.Joined.{of_all_flows, none_handed_in, whole_file, file_of, steps_seen, IsFileOf}
+use Rattle.frame_engine.specs.Written.{written_of, written_in}
+use Rattle.frame_engine.specs.Joined.{none_handed_in, whole_file, steps_seen, IsFileOf}
 use Rattle.frame_engine.specs.Inside.Joins.{PutsCame, HasFiled}
 
 module _ (settings : CaptureSettings) (capture_map : CaptureMap) where

@@ -1,11 +1,15 @@
 -- The file of all flows, of which one of some flows is a part.
-use Rattle.std.proofs.Common.{◌≡◌, ◌≢◌, ℕ, zero, suc, ◌<◌, ◌==◌, ◌⊎◌, inl, inr, Bool, true, false, Option, Some, None, List, [], ◌∷◌, ◌++◌, filter, length, refl, sym, ap, subst, ◌∙◌, append-nil, append_assoc, length-append, eq-eqb, ne_eqb, arith}
+use Rattle.std.proofs.Common.{◌≡◌, ℕ, zero, suc, ◌⊎◌, inl, inr, Bool, true, false, Option, Some, List, [], ◌∷◌, ◌++◌, filter, length, refl, sym, ap, subst, ◌∙◌, append-nil, append_assoc, length-append, ne_eqb, arith}
 use Rattle.std.specs.Prelude.{◌||◌, slice_get, slice_set, if◌then◌else◌}
 use Rattle.std.proofs.lemmas.Bool.{cases_eq, false≢true}
 use Rattle.std.proofs.lemmas.Grind.{flat_map-append}
 use Rattle.std.proofs.lemmas.List.Elements.{filter-append}
+use Rattle.capture.specs.Pcap.{header_bytes}
+use Rattle.capture_map.specs.declared.map.CaptureMap.{CaptureMap}
 use Rattle.capture_map.specs.declared.map.MapChannel.{MapChannel}
 use Rattle.consumer.specs.declared.given.Given.TheVariants as given
+use Rattle.captured_flows.specs.Acts.{Act}
+use Rattle.captured_flows.specs.Flow.{FlowView}
 use Rattle.captured_flows.specs.Shown.{is_seen}
 use Rattle.captured_flows.specs.Steps.{CaptureStep, handed_in, gave, replied, began_anew}
 use Rattle.captured_flows.specs.Followed.{hands_in, StepFollows, FollowBursts}
@@ -15,11 +19,15 @@ use Rattle.flow_selection.specs.declared.selection.Selection.{Selection}
 use Rattle.flow_selection.specs.declared.selection.Selection.TheVariants.{All}
 use Rattle.flow_selection.specs.Selection.{is_selected}
 use Rattle.flow_selection.specs.Lines.{is_left}
+use Rattle.captured_flows.specs.declared.captured_burst.CapturedBurst.{CapturedBurst}
 use Rattle.frame_records.specs.declared.link.FrameLink.{FrameLink}
+use Rattle.frame_records.specs.Frames.{file_header}
 use Rattle.timed_frames.specs.declared.timed_step.LastBurst.{LastBurst}
 use Rattle.timed_frames.specs.declared.timed_step.TimedStep.{TimedStep}
 use Rattle.timed_frames.specs.declared.timed_step.TimedStep.TheVariants as timed_step
 use Rattle.timed_frames.specs.Timed.{Timed, last_burst, nothing_came, burst_came, frame_came, request_came, reply_came, flow_ended}
+use Rattle.frame_engine.specs.declared.settings.CaptureSettings.{CaptureSettings}
+use Rattle.frame_engine.specs.Joined.{of_all_flows, none_handed_in, whole_file, file_of, ComesOf, ComesAtEnd, IsFileOf}
 use Rattle.frame_engine.specs.Written.{flow_of_frame, written_of, written_in, steps_left, left_in}
 
 -- ---- the last of a list
@@ -280,3 +288,45 @@ module _ (selected : Selection) (link : FrameLink) (channels : List MapChannel) 
   pub whole-of : (lasts : List (Option LastBurst)) (steps : List CaptureStep) (timed : List TimedStep) (now : List (Option LastBurst))
       → Timed lasts (filter (is_seen selected) steps) timed now → FollowBursts [] steps → IsPartOf lasts steps timed now
   whole-of lasts steps timed now is follow = whole_of (length steps) lasts steps refl timed now is follow
+
+-- ---- the whole file
+
+module _ (settings : CaptureSettings) (capture_map : CaptureMap) where
+  -- what comes of bursts doesn't depend on which flows are selected
+  pub whole-comes : (bursts : List CapturedBurst) (handed : List Act) (flows : List FlowView) (steps : List CaptureStep) → ComesOf settings capture_map bursts handed flows steps
+      → ComesOf (of_all_flows settings) capture_map bursts handed flows steps
+  whole-comes bursts handed flows steps comes = record { spelled = comes.spelled; plays = comes.plays }
+
+  -- so when nothing more comes
+  pub whole-ends : (bursts : List CapturedBurst) (handed : List Act) (steps : List CaptureStep) → ComesAtEnd settings capture_map bursts handed steps
+      → ComesAtEnd (of_all_flows settings) capture_map bursts handed steps
+  whole-ends bursts handed steps comes = record {
+    before = comes.before;
+    flows = comes.flows;
+    earlier = comes.earlier;
+    came = whole-comes bursts comes.before comes.flows comes.earlier comes.came;
+    later = comes.later;
+    flows' = comes.flows';
+    ends = comes.ends;
+    handed_is = comes.handed_is;
+    plays = comes.plays;
+  }
+
+  -- beside the file of some flows there is the whole one, of one list of what came
+  pub whole-file-of : (steps : List CaptureStep) (text : List ℕ) → IsFileOf settings capture_map steps text → FollowBursts [] steps
+      → (whole : List ℕ) × (timed : List TimedStep) × IsFileOf (of_all_flows settings) capture_map steps whole × (whole ≡ whole_file settings capture_map timed)
+      × (text ≡ file_of settings capture_map timed)
+  whole-file-of steps text file follow =
+      let none = none_handed_in settings capture_map in
+      let part = whole-of settings.selected settings.link capture_map.channels.items none steps file.timed file.lasts file.is_timed follow in (
+        whole_file settings capture_map part.whole,
+        part.whole,
+        record {
+          timed = part.whole;
+          lasts = file.lasts;
+          is_timed = subst (λ (s : List CaptureStep). Timed none s part.whole file.lasts) (sym (all-seen steps)) part.is_timed;
+          text_is = refl;
+        },
+        refl,
+        file.text_is ∙ ap (λ (t : List ℕ). header_bytes (file_header settings.link) ++ t) (sym part.left),
+      )

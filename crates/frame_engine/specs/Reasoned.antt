@@ -36,7 +36,8 @@ answers_in none_comes = []
 answers_in (one_more_comes {told = told} before last) = answers_in before ++ told ∷ []
 
 module _ (settings : CaptureSettings) (capture_map : CaptureMap) where
-  -- **What comes of some bursts of the selected flows is this**, each step with its burst.
+  -- **What comes of some bursts, of the selected flows and of none, is this**, each step with its
+  -- burst.
   pub record ComesTimed (bursts : List CapturedBurst) (timed : List TimedStep) : Type 0 where
     pub handed : List Act
     pub flows : List FlowView

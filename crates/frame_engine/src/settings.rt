@@ -16,6 +16,6 @@ pub struct CaptureSettings {
     pub check: InnerCheck,
     /// What a record with a frame holds.
     pub link: FrameLink,
-    /// Whose frames are written, and which flows what is counted tells of.
+    /// Of which flows frames are joined and written, and which flows what is counted tells of.
     pub selected: Selection,
 }

@@ -1,5 +1,5 @@
 -- A flow to which no segment came gives nothing.
-use Rattle.std.proofs.Common.{◌≡◌, ◌≢◌, ℕ, zero, suc, ◌==◌, inl, inr, Bool, true, false, Option, Some, None, List, [], ◌∷◌, ◌++◌, replicate, refl, sym, ap, subst, ◌∙◌}
+use Rattle.std.proofs.Common.{◌≡◌, ◌≢◌, ℕ, zero, suc, ◌==◌, Bool, true, false, Option, Some, None, List, [], ◌∷◌, ◌++◌, replicate, refl, ap, ◌∙◌}
 use Rattle.std.proofs.lemmas.Bool.{eqb-true}
 use Rattle.std.specs.Prelude.{◌&&◌, nat_lt, if◌then◌else◌}
 use Rattle.std.specs.List.{AllByRecursion, cons_option}
@@ -12,7 +12,6 @@ use Rattle.flow_core.specs.Events.{FlowEvent, gap}
 use Rattle.flow_core.specs.Fates.{no_fates}
 use Rattle.flow_core.specs.Outcome.{IsFlowOutcome}
 use Rattle.lane.specs.declared.admitted.Admitted.{Admitted}
-use Rattle.lane.specs.Inputs.{AnsweredInput}
 use Rattle.lane.specs.Report.{admitted_by}
 use Rattle.loss_rule.specs.Rule.{Coming, no_lasts}
 use Rattle.bonded_flows.specs.declared.decision.FlowDecision.{FlowDecision}

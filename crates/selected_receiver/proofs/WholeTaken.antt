@@ -1,13 +1,10 @@
 -- What a receiver takes of stand-ins it takes of the whole.
-use Rattle.std.proofs.Common.{◌≡◌, ℕ, ◌<◌, ◌≤◌, ◌⊎◌, inl, inr, Bool, true, false, Option, Some, None, Result, Ok, Err, List, [], ◌∷◌, ◌++◌, length, map, refl, sym, ap, subst, ◌∙◌, append-nil, arith}
-use Rattle.std.specs.Prelude.{filter, slice_get, if◌then◌else◌, IfSome}
-use Rattle.answers.specs.Beside.{is_told_if_given}
-use Rattle.std.specs.List.{AllZip}
+use Rattle.std.proofs.Common.{◌≡◌, ℕ, ◌<◌, inl, inr, Bool, true, false, Option, Some, None, Ok, List, [], ◌∷◌, ◌++◌, length, map, refl, sym, ap, subst, ◌∙◌, append-nil, arith}
+use Rattle.std.specs.Prelude.{if◌then◌else◌, IfSome}
 use Rattle.std.specs.Option.{option_map}
 use Rattle.std.proofs.lemmas.Bool.{eq-eqb, false≢true}
 use Rattle.std.proofs.lemmas.List.Elements.{filter_map-append}
-use Rattle.docsis_wire.proofs.StreamPlaces.{element_at, slice_get-at}
-use Rattle.flow_records.specs.declared.record.FlowRecord.{FlowRecord}
+use Rattle.docsis_wire.proofs.StreamPlaces.{element_at}
 use Rattle.flow_core.specs.declared.counts.FlowCounts.{FlowCounts}
 use Rattle.flow_selection.specs.declared.selection.Selection.{Selection}
 use Rattle.flow_selection.specs.Selection.{is_selected}
@@ -19,7 +16,6 @@ use Rattle.lane.specs.Report.{admitted_by}
 use Rattle.lane.proofs.LaneTaking.{answered-last}
 use Rattle.consumer.specs.declared.given.Given.{Given}
 use Rattle.consumer.specs.declared.given.Given.TheVariants.{Frame}
-use Rattle.consumer.specs.Given.{frames_of}
 use Rattle.bonded_flows.specs.Slots.{LeavesOf}
 use Rattle.bonded_flows.specs.Table.{TableSetup}
 use Rattle.bonded_flows.specs.declared.decision.FlowDecision.{FlowDecision}
@@ -30,7 +26,6 @@ use Rattle.receiver.specs.declared.closing.Closed.{Closed}
 use Rattle.receiver.specs.declared.reply.Reply.{Reply}
 use Rattle.receiver.specs.declared.reply.TakeError.{TakeError}
 use Rattle.receiver.specs.declared.reply.TakeError.TheVariants as take_error
-use Rattle.receiver.specs.declared.tallied_lane.TalliedLane.{TalliedLane}
 use Rattle.receiver.specs.Elsewhere.{LooksLike}
 use Rattle.receiver.specs.HandedIn.{HandedIn, came, decided, restarted, came_on, answered_on, lane_of}
 use Rattle.receiver.specs.Receiving.{StandsFor, TakesMore, Replies, Restarts, Fails, WouldCome}
@@ -41,7 +36,6 @@ use Rattle.answers.specs.Beside.{CountsAs, AreAdmittedFor, AnswersInPlaceOf}
 use Rattle.answers.proofs.StandIns.{some_answer}
 use Rattle.selected_receiver.specs.declared.selected_receiver.SelectedReceiver.{SelectedReceiver}
 use Rattle.selected_receiver.specs.StandIns.{AreHeadedAlike, MayStandIn}
-use Rattle.selected_receiver.specs.Given.{ClosesFlow}
 use Rattle.selected_receiver.specs.Whole.{IsWhole, IsSeenOf, StandsForWhole, IsReceivingWhole}
 use Rattle.selected_receiver.specs.declared.of_selected.OfSelected.{OfSelected}
 use Rattle.selected_receiver.specs.Handing.{HandsOn}

@@ -1,5 +1,5 @@
 //! The receiver that is handed in stand-ins.
-ghost use Rattle.std.specs.Prelude.{All, ◌≡◌, ◌<◌, ◌≤◌, ◌↔◌, ◌⊎◌, ◌∷◌, [], ℕ, Bool, List, true, Some, None, IfOk, IfErr, IfSome, OnErr, length, slice_get};
+ghost use Rattle.std.specs.Prelude.{All, ◌≡◌, ◌<◌, ◌≤◌, ◌↔◌, ◌⊎◌, ◌∷◌, [], ℕ, Bool, List, true, Some, None, Err, IfOk, IfErr, IfSome, OnErr, length, slice_get};
 ghost use Rattle.flow_records.specs.declared.record.FlowRecord.{FlowRecord};
 ghost use Rattle.reorder.specs.Limits.{modulus};
 ghost use Rattle.flow_selection.specs.Selection.{is_selected};
@@ -94,7 +94,8 @@ fn stand_in<C: HeaderCheck + Drop>(
 
 /// Why an input wasn't taken, or not to the end.
 fn fault_of(error: &TakeError) -> FlowFault
-    ensures { result ≡ FlowFault.NotThere → (back : Input) × (error.now ≡ TakeError.NoChannel back) }
+    ensures { result ≡ FlowFault.NotThere
+        ↔ ((back : Input) × (error.now ≡ TakeError.NoChannel back)) }
 {
     match error {
         TakeError::NoChannel(_) => FlowFault::NotThere,
@@ -103,7 +104,8 @@ fn fault_of(error: &TakeError) -> FlowFault
 }
 
 impl<C: HeaderCheck + Drop> SelectedReceiver<C> {
-    /// A receiver to which nothing was handed in, of which these flows are joined.
+    /// Joins these flows alone of what is handed in. Nothing is promised of a receiver to which
+    /// something was handed in before.
     pub fn new(receiver: Receiver<C>, selected: Selection) -> SelectedReceiver<C>
         ensures stands { (check : List ℕ → Bool) (made : TableSetup)
             → StandsFor C.accepts receiver check made [] []
@@ -129,8 +131,9 @@ impl<C: HeaderCheck + Drop> SelectedReceiver<C> {
         requires { IsAtHand C.accepts self.now }
         ensures expects { IfOk result (ExpectsOfWhole C.accepts self.now flow) }
         ensures in_range { IfOk result (λ number. number < modulus) }
-        ensures fault { IfErr result (λ fault. (fault ≡ FlowFault.NotThere)
-            × (length self.now.receiver.flows.slots.items ≤ flow)) }
+        ensures no_flow { result ≡ Err FlowFault.NotThere
+            ↔ (length self.now.receiver.flows.slots.items ≤ flow) }
+        ensures fault { IfErr result (λ fault. fault ≡ FlowFault.NotThere) }
     {
         match self.receiver.expected(flow) {
             Some(number) => Ok(number),
@@ -179,8 +182,8 @@ impl<C: HeaderCheck + Drop> SelectedReceiver<C> {
         ensures at_hand { IfOk result (λ _. IsAtHand C.accepts self.new) }
         ensures fails { OnErr result
             (TakesSomeOfWhole C.accepts O.after self.old out.old self.new out.new) }
-        ensures fault { IfErr result (λ fault. fault ≡ FlowFault.NotThere
-            → (length self.old.receiver.flows.slots.items ≤ flow) ⊎ (modulus ≤ first)) }
+        ensures not_there { result ≡ Err FlowFault.NotThere
+            ↔ ((length self.old.receiver.flows.slots.items ≤ flow) ⊎ (modulus ≤ first)) }
         ensures receiving { IsReceivingWhole C.accepts self.new }
         ensures selected { self.new.selected ≡ self.old.selected }
     {
@@ -192,8 +195,8 @@ impl<C: HeaderCheck + Drop> SelectedReceiver<C> {
         }
     }
 
-    /// An input of a channel is handed in; of a burst that would come to no selected flow the
-    /// header, and zeros behind it.
+    /// An input of a channel is handed in; of a burst that would come to a flow that isn't selected
+    /// the header, and zeros behind it.
     pub fn take<O: Consumer>(
         &mut self,
         alloc: Global,
@@ -207,8 +210,8 @@ impl<C: HeaderCheck + Drop> SelectedReceiver<C> {
         ensures at_hand { IfOk result (λ _. IsAtHand C.accepts self.new) }
         ensures fails { OnErr result
             (TakesSomeOfWhole C.accepts O.after self.old out.old self.new out.new) }
-        ensures fault { IfErr result (λ fault. fault ≡ FlowFault.NotThere
-            → length self.old.receiver.lanes.items ≤ channel) }
+        ensures no_channel { result ≡ Err FlowFault.NotThere
+            ↔ (length self.old.receiver.lanes.items ≤ channel) }
         ensures receiving { IsReceivingWhole C.accepts self.new }
         ensures selected { self.new.selected ≡ self.old.selected }
     {
@@ -235,9 +238,9 @@ impl<C: HeaderCheck + Drop> SelectedReceiver<C> {
         self.receiver.counts(flow)
     }
 
-    /// Closes all flows, in the order of their records, and gives what each has left to give. Where
-    /// an allocation failed the close is to be gone on with by [`Closing::go_on`]. The selection is
-    /// given back.
+    /// Closes all flows, in the order of their records, and gives what each has left to give. The
+    /// selection is given back. Where an allocation failed the close can't be gone on with for the
+    /// whole: what [`Closing::go_on`] gives is of what stood in for other flows, too.
     pub fn close<O: Consumer>(
         self,
         alloc: Global,

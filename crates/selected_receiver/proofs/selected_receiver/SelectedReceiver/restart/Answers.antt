@@ -1,6 +1,5 @@
 -- A flow of the whole begins anew.
-use Rattle.std.proofs.Common.{[], refl, ◌∙◌, map, rules}
-use Rattle.consumer.specs.declared.given.Given.TheVariants.{Frame}
+use Rattle.std.proofs.Common.{[], refl, ◌∙◌, rules}
 use Rattle.selected_receiver.proofs.Settled.{rest-of_others}
 use Rattle.selected_receiver.proofs.WholeTaken.{hands-nothing, takes-nothing, takes-restart, same-handed, some-restarted, receiving-then}
 use Rattle.selected_receiver.proofs.selected_receiver.SelectedReceiver.restart.Goals as goal

@@ -1,5 +1,5 @@
 -- The whole takes an input.
-use Rattle.std.proofs.Common.{[], ◌∷◌, refl, ◌∙◌, rules}
+use Rattle.std.proofs.Common.{refl, ◌∙◌, rules}
 use Rattle.selected_receiver.proofs.Settled.{rest-replied}
 use Rattle.selected_receiver.proofs.WholeTaken.{same-handed, takes-input, some-replied, some-failed, failed-handed, receiving-then}
 use Rattle.selected_receiver.proofs.selected_receiver.SelectedReceiver.take.Goals as goal
