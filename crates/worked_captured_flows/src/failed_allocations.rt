@@ -105,7 +105,8 @@ fn kept_of_all(alloc: Global, log: &mut Log) -> Result<u64, FlowFault> {
     };
     captured.take_all(alloc, bursts, log)?;
     captured.end_waiting(alloc, log)?;
-    match captured.into_receiver().close(alloc, log).1 {
+    let (_, closed) = captured.into_receiver().close(alloc, log);
+    match closed {
         Ok(closed) => Ok(closed.flows.first().map_or(0, |counts| counts.kept)),
         Err(_) => Err(FlowFault::OutOfMemory),
     }

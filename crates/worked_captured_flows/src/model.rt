@@ -69,7 +69,8 @@ fn answer(alloc: Global, case: &[u64]) -> Result<Option<Vec<u64>>, Fail> {
     let mut noted = Noted::new(alloc);
     captured.take_all(alloc, bursts_of(alloc, came)?, &mut noted)?;
     captured.end_waiting(alloc, &mut noted)?;
-    let Ok(closed) = captured.into_receiver().close(alloc, &mut noted).1 else {
+    let (_, closed) = captured.into_receiver().close(alloc, &mut noted);
+    let Ok(closed) = closed else {
         return Ok(None);
     };
     let mut answer = noted.times;

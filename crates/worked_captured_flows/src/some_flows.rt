@@ -94,7 +94,8 @@ fn seen_where(alloc: Global, selected: Selection) -> Result<(Noted, Vec<FlowCoun
         captured.take(alloc, burst, &mut noted)?;
     }
     captured.end_waiting(alloc, &mut noted)?;
-    if let Ok(closed) = captured.into_receiver().close(alloc, &mut noted).1 {
+    let (_, closed) = captured.into_receiver().close(alloc, &mut noted);
+    if let Ok(closed) = closed {
         counts.extend_from_slice(&closed.flows)?;
     }
     Ok((noted, counts))
