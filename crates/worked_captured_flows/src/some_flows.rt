@@ -40,14 +40,15 @@ fn begins_at(mut bytes: Vec<u8>, place: u8) -> Vec<u8> {
 /// is spoiled, and lost where the next comes too late to wait for it; and last a segment of each
 /// begins it anew. The flow's index, the number, the request and what is carried.
 fn bursts_of_two(alloc: Global) -> Result<Vec<CapturedBurst>, AllocError> {
-    let mut all = Vec::new(alloc);
-    for last in [61, 62, 63] {
-        all.extend_from_slice(&frame_of(last))?;
+    let begun = frame_of(61);
+    let mut rest = Vec::from_slice(alloc, &begun[3..])?;
+    for last in [62, 63] {
+        rest.extend_from_slice(&frame_of(last))?;
     }
     let cuts: [(usize, u16, u8, &[u8]); 8] = [
         (0, 5, 9, &frame_of(51)),
-        (1, 5, 0, &all[..3]),
-        (1, 6, 4, &all[3..]),
+        (1, 5, 0, &begun[..3]),
+        (1, 6, 4, &rest),
         (0, 6, 0, &frame_of(52)),
         (1, 7, 0, &frame_of(64)),
         (1, 8, 0, &frame_of(65)),
