@@ -38,33 +38,25 @@ fn begins_at(mut bytes: Vec<u8>, place: u8) -> Vec<u8> {
 
 /// Three frames of the second flow in two segments between two of the first; then one segment of it
 /// is spoiled, and lost where the next comes too late to wait for it; and last a segment of each
-/// begins it anew. The flow's index, the number, the request and what is carried.
+/// begins it anew. The flow's index, the time, the number, the request and what is carried.
 fn bursts_of_two(alloc: Global) -> Result<Vec<CapturedBurst>, AllocError> {
     let begun = frame_of(61);
     let mut rest = Vec::from_slice(alloc, &begun[3..])?;
     for last in [62, 63] {
         rest.extend_from_slice(&frame_of(last))?;
     }
-    let cuts: [(usize, u16, u8, &[u8]); 8] = [
-        (0, 5, 9, &frame_of(51)),
-        (1, 5, 0, &begun[..3]),
-        (1, 6, 4, &rest),
-        (0, 6, 0, &frame_of(52)),
-        (1, 7, 0, &frame_of(64)),
-        (1, 8, 0, &frame_of(65)),
-        (1, 500, 0, &frame_of(66)),
-        (0, 500, 0, &frame_of(53)),
+    let cuts: [(usize, u64, u16, u8, &[u8]); 8] = [
+        (0, 1, 5, 9, &frame_of(51)),
+        (1, 2, 5, 0, &begun[..3]),
+        (1, 3, 6, 4, &rest),
+        (0, 4, 6, 0, &frame_of(52)),
+        (1, 5, 7, 0, &frame_of(64)),
+        (1, 35, 8, 0, &frame_of(65)),
+        (1, 125, 500, 0, &frame_of(66)),
+        (0, 215, 500, 0, &frame_of(53)),
     ];
     let mut bursts = Vec::new(alloc);
-    let mut time = 0;
-    for (flow, number, requested, payload) in cuts {
-        time = if number == 8 {
-            time + 30
-        } else if number < 500 {
-            time + 1
-        } else {
-            time + 90
-        };
+    for (flow, time, number, requested, payload) in cuts {
         let mut burst = burst_with(alloc, time, number, requested, payload)?;
         burst.sid = if flow == 0 { 7 } else { 8 };
         burst.check = number != 7;
