@@ -38,8 +38,9 @@ fn begins_at(mut bytes: Vec<u8>, place: u8) -> Vec<u8> {
 
 /// Three frames of the second flow in two segments between two of the first; then one segment of it
 /// is spoiled, and lost where the next comes too late to wait for it; and last a segment of each
-/// begins it anew. The flow's index, the time, the number, the request and what is carried.
-fn bursts_of_two(alloc: Global) -> Result<Vec<CapturedBurst>, AllocError> {
+/// begins it anew, which are those that are asked for or left out here. The flow's index, the time,
+/// the number, the request and what is carried.
+fn bursts_of_two(alloc: Global, begin_anew: bool) -> Result<Vec<CapturedBurst>, AllocError> {
     let begun = frame_of(61);
     let mut rest = Vec::from_slice(alloc, &begun[3..])?;
     for last in [62, 63] {
@@ -63,7 +64,9 @@ fn bursts_of_two(alloc: Global) -> Result<Vec<CapturedBurst>, AllocError> {
         if (flow, number) == (1, 6) {
             burst.bytes = Bytes::from(begins_at(burst.bytes.into_vec(), 5));
         }
-        bursts.push(burst)?;
+        if begin_anew == (number == 500) {
+            bursts.push(burst)?;
+        }
     }
     Ok(bursts)
 }
@@ -78,14 +81,10 @@ fn seen_where(alloc: Global, selected: Selection) -> Result<(Noted, Vec<FlowCoun
     let map = map_of_two(alloc)?;
     let mut captured = CapturedFlows::new(alloc, map, LossRule::Decided, waits, selected, NoCheck)?;
     let (mut noted, mut counts) = (Noted::new(alloc), Vec::new(alloc));
-    for burst in bursts_of_two(alloc)? {
-        let begins_anew = burst.time > 100;
-        if begins_anew && counts.is_empty() {
-            counts.extend(captured.counts(0))?;
-            counts.extend(captured.counts(1))?;
-        }
-        captured.take(alloc, burst, &mut noted)?;
-    }
+    captured.take_all(alloc, bursts_of_two(alloc, false)?, &mut noted)?;
+    counts.extend(captured.counts(0))?;
+    counts.extend(captured.counts(1))?;
+    captured.take_all(alloc, bursts_of_two(alloc, true)?, &mut noted)?;
     captured.end_waiting(alloc, &mut noted)?;
     let (_, closed) = captured.into_receiver().close(alloc, &mut noted);
     if let Ok(closed) = closed {
