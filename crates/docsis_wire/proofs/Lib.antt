@@ -22,3 +22,4 @@ pub mod Spans
 pub mod Pointing
 pub mod Stretches
 pub mod SegmentReads
+pub mod Zeros

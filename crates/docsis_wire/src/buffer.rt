@@ -1,5 +1,6 @@
 //! The bytes of a payload or of a frame, which contracts see as a list.
-ghost use Rattle.std.specs.Prelude.{◌≡◌, ◌≤◌, ◌↔◌, ℕ, List, [], length, vec_len, drop, IsTrue};
+ghost use Rattle.std.specs.Prelude.{◌≡◌, ◌≤◌, ◌↔◌, ◌-◌, ◌++◌, ℕ, List, [], length, vec_len};
+ghost use Rattle.std.specs.Prelude.{take, drop, replicate, IsTrue};
 
 use std::alloc::{AllocError, Global};
 use std::fmt;
@@ -104,6 +105,18 @@ impl Bytes {
         behind(all, skipped + count)
     }
 
+    /// The bytes with zeros in the place of all behind the first so many. No byte is moved.
+    pub fn with_zeros_behind(self, count: usize) -> Bytes
+        ensures { result ≡ take count self ++ replicate (length self - count) 0 }
+    {
+        let Rest { mut all, skipped } = self.bytes;
+        if count >= all.len() - skipped {
+            return behind(all, skipped);
+        }
+        put_zeros(&mut all, skipped + count);
+        behind(all, skipped)
+    }
+
     /// The bytes in memory of just their size, where what they stand in has room for more than
     /// twice as many and 64 more: they are copied, and that memory is freed. Where an allocation
     /// fails they stay where they are.
@@ -119,6 +132,14 @@ impl Bytes {
             Err(AllocError) => self,
         }
     }
+}
+
+/// Puts zeros in the place of all bytes behind the first so many.
+fn put_zeros(bytes: &mut [u8], count: usize)
+    requires { count ≤ length bytes.old }
+    ensures { bytes.new ≡ take count bytes.old ++ replicate (length bytes.old - count) 0 }
+{
+    bytes[count..].fill(0);
 }
 
 /// Bytes of which so many are left out at the front.

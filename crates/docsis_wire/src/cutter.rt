@@ -1,12 +1,14 @@
 //! Frames cut into segments, all at once or a segment at a time.
-ghost use Rattle.std.specs.Prelude.{◌≡◌, ◌≢◌, ◌+◌, ◌<◌, ◌↔◌, ◌⊎◌, ◌++◌, ℕ, Bool, List, false, length, min, replicate};
+ghost use Rattle.std.specs.Prelude.{◌≡◌, ◌≢◌, ◌+◌, ◌<◌, ◌↔◌, ◌⊎◌, ◌++◌, ℕ, Bool, List, false};
+ghost use Rattle.std.specs.Prelude.{length, min, replicate};
 ghost use Rattle.std.specs.Prelude.{IfOk, IfErr, IsOk, OnOk, OnErr};
 ghost use Rattle.std.specs.List.{concat, AllByRecursion};
 ghost use Rattle.docsis_wire.specs.Frame.{IsGenericFrame};
 ghost use Rattle.docsis_wire.specs.Cut.{IsLawfulCut, Points};
 ghost use Rattle.docsis_wire.specs.Inside.Cursor.{place_at, IsPlaced, chunk_at, CanPoint};
 ghost use Rattle.docsis_wire.specs.Pieces.{fill_byte, chunks_of, ArePieceSegments, IsFirstBadFrame};
-ghost use Rattle.docsis_wire.specs.Pieces.{IsFirstFillInsideFrame, IsFirstPointerTooFar, IsCuttable, Reports};
+ghost use Rattle.docsis_wire.specs.Pieces.{IsFirstFillInsideFrame, IsFirstPointerTooFar};
+ghost use Rattle.docsis_wire.specs.Pieces.{IsCuttable, Reports};
 ghost use Rattle.docsis_wire.specs.Limits.{sequence_modulus};
 ghost use Rattle.docsis_wire.specs.CutUnderWay.{GivesNext};
 

@@ -1,5 +1,6 @@
 //! The frame check sequence of Ethernet.
-ghost use Rattle.std.specs.Prelude.{◌≡◌, ◌+◌, ◌*◌, ◌%◌, ◌<◌, ◌≤◌, length, take, drop, bit_xor, MatchOption};
+ghost use Rattle.std.specs.Prelude.{◌≡◌, ◌+◌, ◌*◌, ◌%◌, ◌<◌, ◌≤◌, length, take, drop, bit_xor};
+ghost use Rattle.std.specs.Prelude.{MatchOption};
 ghost use Rattle.docsis_wire.specs.Division.{message, remainder_after};
 ghost use Rattle.docsis_wire.specs.Checks.{frame_generator, frame_check_sequence};
 ghost use Rattle.docsis_wire.specs.Inside.Pending.{pair_sum, to_add, whole_remainder};

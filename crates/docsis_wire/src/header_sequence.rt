@@ -1,7 +1,8 @@
 //! The header check sequence, and the check of headers by it.
 ghost use Rattle.std.specs.Prelude.{◌≡◌, bit_xor};
 ghost use Rattle.docsis_wire.specs.Division.{remainder_after};
-ghost use Rattle.docsis_wire.specs.Checks.{header_generator, check_sequence, ends_with_its_sequence};
+ghost use Rattle.docsis_wire.specs.Checks.{header_generator, check_sequence};
+ghost use Rattle.docsis_wire.specs.Checks.{ends_with_its_sequence};
 
 use crate::header_check::HeaderCheck;
 

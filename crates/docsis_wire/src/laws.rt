@@ -2,7 +2,8 @@
 //! fault, and a long division leaves the one remainder.
 //!
 //! Each function states a law in its contract; its body is empty or only calls other laws.
-ghost use Rattle.std.specs.Prelude.{◌≡◌, ◌≢◌, ◌<◌, ◌≤◌, ◌↔◌, ℕ, ◌%◌, Bool, Option, Some, IsSome, IfSome, All, List, [], ◌∷◌, ◌++◌, length, take};
+ghost use Rattle.std.specs.Prelude.{◌≡◌, ◌≢◌, ◌<◌, ◌≤◌, ◌↔◌, ℕ, ◌%◌, Bool, Option, Some, IsSome};
+ghost use Rattle.std.specs.Prelude.{IfSome, All, List, [], ◌∷◌, ◌++◌, length, take};
 ghost use Rattle.docsis_wire.specs.declared.header.SegmentHeader.{SegmentHeader};
 ghost use Rattle.docsis_wire.specs.declared.header_check.NoCheck.{NoCheck};
 ghost use Rattle.docsis_wire.specs.declared.pieces.Piece.{Piece};
@@ -14,7 +15,8 @@ ghost use Rattle.docsis_wire.specs.Frame.{IsGenericFrame, IsFrame};
 ghost use Rattle.docsis_wire.specs.Cut.{IsLawfulCut};
 ghost use Rattle.docsis_wire.specs.CutUnderWay.{CutUnderWay, IsSameCut, HasMade, GivesNext};
 ghost use Rattle.docsis_wire.specs.Division.{remainder_after, IsRemainder};
-ghost use Rattle.docsis_wire.specs.Pieces.{fill_byte, chunks_of, ArePieceSegments, IsCuttable, Reports};
+ghost use Rattle.docsis_wire.specs.Pieces.{fill_byte, chunks_of, ArePieceSegments, IsCuttable};
+ghost use Rattle.docsis_wire.specs.Pieces.{Reports};
 
 use crate::header_check::{HeaderCheck, NoCheck};
 

@@ -4,7 +4,8 @@
 //! few powers is x^300 + x^155 + x^117 + x^89 + 1. Added as often as the two words at the front
 //! say, it makes both 0, and they come again in four places further on, all behind the two. (The
 //! way is known as Chorba.)
-ghost use Rattle.std.specs.Prelude.{◌≡◌, ℕ, ◌+◌, ◌*◌, ◌^◌, ◌<◌, ◌≤◌, length, take, drop, slice_index, bit_xor};
+ghost use Rattle.std.specs.Prelude.{◌≡◌, ℕ, ◌+◌, ◌*◌, ◌^◌, ◌<◌, ◌≤◌, length, take, drop};
+ghost use Rattle.std.specs.Prelude.{slice_index, bit_xor};
 ghost use Rattle.docsis_wire.specs.Division.{message, remainder_after};
 ghost use Rattle.docsis_wire.specs.Checks.{frame_generator};
 ghost use Rattle.docsis_wire.specs.Inside.Pending.{pair_sum, to_add};

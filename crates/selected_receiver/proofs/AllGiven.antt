@@ -7,6 +7,7 @@ use Rattle.std.specs.Box.{box_value}
 use Rattle.docsis_wire.proofs.StreamPlaces.{element_at}
 use Rattle.std.proofs.lemmas.Option.{slice_get_within}
 use Rattle.flow_records.specs.declared.record.FlowRecord.{FlowRecord}
+use Rattle.flow_records.specs.Setup.{IsInRange}
 use Rattle.flow_selection.specs.Selection.{is_selected}
 use Rattle.flow_core.specs.declared.counts.FlowCounts.{FlowCounts}
 use Rattle.flow_core.specs.Counts.{no_counts}
@@ -23,12 +24,13 @@ use Rattle.bonded_flows.specs.Slots.{PartStands, SlotStands, IsAtRest}
 use Rattle.bonded_flows.specs.Table.{TableSetup, flow_setup, inputs_at}
 use Rattle.bonded_flows.proofs.SettledFlows.{all-taken}
 use Rattle.bonded_flows.proofs.SlotStates.{not-begun, begun, counted-nothing}
-use Rattle.receiver.specs.HandedIn.{HandedIn, answered_on, flow_inputs}
+use Rattle.receiver.specs.HandedIn.{HandedIn, answered_on, flow_inputs, begun_with}
 use Rattle.receiver.specs.Receiving.{IsSettledAt}
 use Rattle.answers.proofs.OtherItems.{requests-same}
 use Rattle.selected_receiver.specs.declared.selected_receiver.SelectedReceiver.{SelectedReceiver}
 use Rattle.selected_receiver.specs.Given.{HasGivenParts, IsAllGiven}
 use Rattle.selected_receiver.specs.Whole.{GivesParts, StandsForWhole}
+use Rattle.selected_receiver.proofs.AlikeWhole.{parts-alike}
 use Rattle.selected_receiver.proofs.InTheirPlace.{answers-for, inputs-for}
 
 -- ---- one flow
@@ -102,6 +104,19 @@ module _ {C : Type 0} (accepts : C → List ℕ → Bool) (receiver : SelectedRe
     by_flag true selected = selected-given k flow_record selected there
     by_flag false left = given-parts check (flow_setup made k flow_record) (inputs_to k handed) (frames_of k given) (is.whole.of_others k flow_record left there)
 
+  -- each record is in range, also with the number at which its flow began anew
+  range-given : (k : ℕ) (flow_record : FlowRecord) → slice_get made.records k ≡ Some flow_record
+      → IsInRange (begun_with made k flow_record (flow_inputs (length made.records) handed)).flow_record
+  range-given k flow_record there =
+      let setup = flow_setup made k flow_record in
+      let within = slice_get_within made.records k flow_record there in
+      let count = is.stands.flows.flow_count in
+      let inside : k < length receiver.receiver.flows.slots.items = omega arith in
+      let found = element_at receiver.receiver.flows.slots.items k inside in
+      let stands = is.stands.flows.flows k flow_record found.0 there found.1 in
+      let alike = parts-alike chosen is.others handed is.whole.stand_ins setup k (length made.records) in
+      subst (λ (first : ℕ). IsInRange (begun_at setup first).flow_record) (sym alike.first) stands.part.in_range
+
   -- so all is given that is given for the whole
   pub all-given : IsAllGiven check made handed given
   all-given = record {
@@ -111,4 +126,6 @@ module _ {C : Type 0} (accepts : C → List ℕ → Bool) (receiver : SelectedRe
         ∙ sym (requests-same chosen (answered_on channel is.others) (answered_on channel handed) (answers-for chosen is.others handed is.whole.stand_ins channel));
     flows = flows-given;
     others = is.whole.of_none;
+    rows_fit = is.stands.lanes.rows_fit;
+    in_range = range-given;
   }

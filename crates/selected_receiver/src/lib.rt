@@ -1,9 +1,10 @@
 //! A receiver that joins the selected flows alone.
 //!
-//! A flow's frames depend on its own segments alone. Who wants the frames of some flows hands in all
-//! that comes, since requests, answers and numbers are a channel's and a flow's; but in the place of
-//! what bursts of other flows carry a [`SelectedReceiver`] hands its receiver zeros behind the same
-//! header, which are no frame, so that nothing of them is joined. It takes no memory for that.
+//! A flow's frames depend on its own segments alone. Who wants the frames of some flows hands in
+//! all that comes, since requests, answers and numbers are a channel's and a flow's; but in the
+//! place of what bursts of other flows carry a [`SelectedReceiver`] hands its receiver zeros behind
+//! the same header, which are no frame, so that nothing of them is joined. It takes no memory for
+//! that, and moves no byte.
 //!
 //! 1. [`SelectedReceiver::new`] takes a receiver to which nothing was handed in, and a selection.
 //! 2. [`SelectedReceiver::take`], [`SelectedReceiver::skip`] and [`SelectedReceiver::restart`] hand

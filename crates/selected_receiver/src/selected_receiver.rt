@@ -1,5 +1,6 @@
 //! The receiver that is handed in stand-ins.
-ghost use Rattle.std.specs.Prelude.{All, ◌≡◌, ◌<◌, ◌≤◌, ◌↔◌, ◌⊎◌, ◌∷◌, [], ℕ, Bool, List, true, Some, None, Err, IfOk, IfErr, IfSome, OnErr, length, slice_get};
+ghost use Rattle.std.specs.Prelude.{All, ◌≡◌, ◌<◌, ◌≤◌, ◌↔◌, ◌⊎◌, ◌∷◌, [], ℕ, Bool, List, true};
+ghost use Rattle.std.specs.Prelude.{Some, None, Err, IfOk, IfErr, IfSome, OnErr, length, slice_get};
 ghost use Rattle.flow_records.specs.declared.record.FlowRecord.{FlowRecord};
 ghost use Rattle.reorder.specs.Limits.{modulus};
 ghost use Rattle.flow_selection.specs.Selection.{is_selected};
@@ -16,13 +17,14 @@ ghost use Rattle.selected_receiver.specs.declared.flow_fault.FlowFault.{FlowFaul
 ghost use Rattle.receiver.specs.declared.reply.TakeError.{TakeError};
 ghost use Rattle.lane.specs.declared.input.Input.{Input};
 ghost use Rattle.selected_receiver.specs.Whole.{StandsForWhole, IsReceivingWhole, IsAtHand};
-ghost use Rattle.selected_receiver.specs.Taking.{ExpectsOfWhole, TakesWhole, TakesSomeOfWhole, RepliesOfWhole};
+ghost use Rattle.selected_receiver.specs.Taking.{ExpectsOfWhole, TakesWhole, TakesSomeOfWhole};
+ghost use Rattle.selected_receiver.specs.Taking.{RepliesOfWhole};
 ghost use Rattle.selected_receiver.specs.Taking.{RestartsOfWhole, ClosesOfWhole};
 
 use crate::flow_fault::FlowFault;
 use crate::of_selected::OfSelected;
 use consumer::Consumer;
-use docsis_wire::{Bytes, HEADER_BYTES, HeaderCheck};
+use docsis_wire::{HEADER_BYTES, HeaderCheck};
 use flow_core::FlowCounts;
 use flow_selection::Selection;
 use lane::Input;
@@ -45,17 +47,11 @@ fn without_payload(input: Input) -> Input
             grant,
             hcs_ok,
             bytes,
-        } => {
-            let mut bytes = bytes.into_vec();
-            if bytes.len() > HEADER_BYTES {
-                bytes[HEADER_BYTES..].fill(0);
-            }
-            Input::Burst {
-                grant,
-                hcs_ok,
-                bytes: Bytes::from(bytes),
-            }
-        }
+        } => Input::Burst {
+            grant,
+            hcs_ok,
+            bytes: bytes.with_zeros_behind(HEADER_BYTES),
+        },
         Input::Grant { .. } => input,
     }
 }
@@ -167,8 +163,8 @@ impl<C: HeaderCheck + Drop> SelectedReceiver<C> {
         }
     }
 
-    /// The flow is closed and begins anew at this number, 0 to 8191. What was counted of it since it
-    /// was begun is answered; of a flow that isn't selected, of what stood in for it.
+    /// The flow is closed and begins anew at this number, 0 to 8191. What was counted of it since
+    /// it was begun is answered; of a flow that isn't selected, of what stood in for it.
     pub fn restart<O: Consumer>(
         &mut self,
         alloc: Global,

@@ -44,6 +44,27 @@ fn prints_no_bytes_that_are_left_out(rt: HostRuntime) -> Result<(), Fail> {
     Ok(())
 }
 
+/// How many bytes stay, and the three bytes then.
+const WITH_ZEROS: [(usize, &[u8]); 5] = [
+    (0, &[0, 0, 0]),
+    (1, &[17, 0, 0]),
+    (2, &[17, 34, 0]),
+    (3, KEPT),
+    (4, KEPT),
+];
+
+#[test]
+fn puts_zeros_behind_the_first_bytes(rt: HostRuntime) -> Result<(), Fail> {
+    for (count, wanted) in &WITH_ZEROS {
+        for front in [FRONT, &[]] {
+            let bytes = behind(rt.alloc(), front, 16)?.with_zeros_behind(*count);
+            expect_bytes(&rt, "zeros behind", bytes.as_slice(), wanted);
+            expect_same(&rt, "room", bytes.into_vec().capacity(), 16);
+        }
+    }
+    Ok(())
+}
+
 /// What stands before three bytes, the room of their memory, and the room that is left them: a
 /// copy's just where it was more than twice three and 64.
 const ROOMS: [(&str, &[u8], usize, usize); 6] = [
