@@ -61,6 +61,11 @@ use Rattle.followed_traces.specs.declared.input.FollowInput.{FollowInput}
 use Rattle.followed_traces.specs.Inside.Watched.{TellsStandingIn, TellsStandingOf, TellsStandingIfAny, ReceiverUnderWay, would_be_followed, Watched, starts_watched, HappensForWhole, HasFollowed, IsNonePending, EndsFollowing}
 use Rattle.followed_traces.specs.Inside.Lines.{with_told, IsAllPut, PutsHappened}
 
+-- a receiver in a box is that receiver, under way
+pub under_way : (receiver boxed : Receiver NoCheck) (pending : HappeningList) (now : ReceiverUnderWay) → receiver ≡ boxed
+    → record { receiver = boxed; pending = pending } ≡ now → now ≡ record { receiver = receiver; pending = pending }
+under_way receiver boxed pending now same is = sym is ∙ ap (λ (r : Receiver NoCheck). record { receiver = r; pending = pending }) (sym same)
+
 -- ---- how a flow stands
 
 -- there is no such flow

@@ -36,12 +36,14 @@ use texts::{FollowSettings, Happening, HappeningList, InputName, TakeEntries, fl
 /// yet. Contracts see both.
 #[derive(Drop)]
 pub struct Following {
-    receiver: Receiver<NoCheck>,
+    /// In a box, since each line of a trace moves it.
+    receiver: Box<Receiver<NoCheck>>,
     happened: HappeningList,
 }
 
 impl Model for Following {
     ghost use Rattle.std.specs.Prelude.{refl};
+    ghost use Rattle.std.specs.Box.{box_value};
     ghost use Rattle.std.specs.Coded.{code_by, coded×};
     ghost use Rattle.docsis_wire.specs.contracts.header_check.NoCheck as no_check_type;
     ghost use Rattle.docsis_wire.specs.declared.header_check.NoCheck.{NoCheck};
@@ -61,11 +63,11 @@ impl Model for Following {
         (λ pair. record { receiver = pair.0; pending = pair.1 }) (λ _. refl) };
 
     ghost view = { λ following. record {
-      receiver = following.receiver;
+      receiver = box_value following.receiver;
       pending = following.happened;
     } };
 
-    ghost invariant = { λ following. IsReceiving no_check following.receiver };
+    ghost invariant = { λ following. IsReceiving no_check (box_value following.receiver) };
 }
 
 impl Following {
@@ -131,7 +133,7 @@ impl Following {
             receiver,
             mut happened,
         } = self;
-        match receiver.close(alloc, &mut happened) {
+        match Box::into_inner(receiver).close(alloc, &mut happened) {
             Ok(closed) => Ok((happened, closed)),
             Err(_) => Err(AllocError),
         }
@@ -220,7 +222,7 @@ impl TakeEntries for Following {
             return Err(AllocError);
         };
         Ok(Following {
-            receiver,
+            receiver: Box::new(alloc, receiver)?,
             happened: HappeningList::new(alloc),
         })
     }
