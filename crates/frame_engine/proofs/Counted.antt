@@ -1,5 +1,5 @@
 -- What was counted of flows, one after another.
-use Rattle.std.proofs.Common.{◌≡◌, ◌≤◌, ◌<◌, ◌+◌, ℕ, Bool, true, false, Option, Some, None, List, [], ◌∷◌, ◌++◌, length, take, refl, sym, subst, arith}
+use Rattle.std.proofs.Common.{◌≡◌, ◌≤◌, ◌<◌, ◌+◌, ℕ, Bool, true, false, Option, Some, None, List, [], ◌∷◌, ◌++◌, length, take, refl, sym, subst, ◌∙◌, arith}
 use Rattle.std.specs.Prelude.{◌↔◌, IfSome, slice_get}
 use Rattle.std.proofs.lemmas.List.{length-take-le}
 use Rattle.flow_records.specs.declared.record.FlowRecord.{FlowRecord}
@@ -27,15 +27,21 @@ module _ (reading : FrameReading) where
   is-since flow (Some since) none some = some
 
   -- one more flow was counted
-  pub counted-more : (flows : List FlowSummary) (flow : ℕ) (one : FlowSummary) (since : Option FlowCounts) (counts counts' : FlowCounts) → flow < length flows
-      → take (flow + 1) flows ≡ take flow flows ++ one ∷ [] → IsCountedSince reading flow since
-      → (one.is_selected ≡ true → counts' ≡ with_since (both_counts counts one.counts) since) → (one.is_selected ≡ false → counts' ≡ counts)
+  pub counted-more : (flows : List FlowSummary) (flow : ℕ) (one : FlowSummary) (since : Option FlowCounts) (joined : Bool) (counts counts' : FlowCounts) → flow < length flows
+      → take (flow + 1) flows ≡ take flow flows ++ one ∷ [] → IsCountedSince reading flow since → joined ≡ is_selected reading.joining.flows.receiver.selected flow
+      → (joined ≡ true → counts' ≡ with_since (both_counts counts one.counts) since) → (joined ≡ false → counts' ≡ counts)
       → AreCounted reading (take flow flows) counts → AreCounted reading (take (flow + 1) flows) counts'
-  counted-more flows flow one since counts counts' within more is selected other was =
-      subst (λ (some : List FlowSummary). AreCounted reading some counts') (sym more) (by_case one.is_selected refl) where
-        since_is : IsCountedSince reading (length (take flow flows)) since
-        since_is = subst (λ (k : ℕ). IsCountedSince reading k since) (sym (length-take-le flow flows (omega (arith, within)))) is
+  counted-more flows flow one since joined counts counts' within more is flag selected other was =
+      subst (λ (some : List FlowSummary). AreCounted reading some counts') (sym more) (by_case joined refl) where
+        place : length (take flow flows) ≡ flow
+        place = length-take-le flow flows (omega (arith, within))
 
-        by_case : (is_selected : Bool) → one.is_selected ≡ is_selected → AreCounted reading (take flow flows ++ one ∷ []) counts'
-        by_case true is = subst (λ (all : FlowCounts). AreCounted reading (take flow flows ++ one ∷ []) all) (sym (selected is)) (one_flow one since was is since_is)
-        by_case false is = subst (λ (all : FlowCounts). AreCounted reading (take flow flows ++ one ∷ []) all) (sym (other is)) (passed_over one was is)
+        since_is : IsCountedSince reading (length (take flow flows)) since
+        since_is = subst (λ (k : ℕ). IsCountedSince reading k since) (sym place) is
+
+        flag_is : (b : Bool) → joined ≡ b → is_selected reading.joining.flows.receiver.selected (length (take flow flows)) ≡ b
+        flag_is b of = subst (λ (k : ℕ). is_selected reading.joining.flows.receiver.selected k ≡ b) (sym place) (sym flag ∙ of)
+
+        by_case : (b : Bool) → joined ≡ b → AreCounted reading (take flow flows ++ one ∷ []) counts'
+        by_case true of = subst (λ (all : FlowCounts). AreCounted reading (take flow flows ++ one ∷ []) all) (sym (selected of)) (one_flow one since was (flag_is true of) since_is)
+        by_case false of = subst (λ (all : FlowCounts). AreCounted reading (take flow flows ++ one ∷ []) all) (sym (other of)) (passed_over one was (flag_is false of))

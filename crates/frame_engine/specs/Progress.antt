@@ -46,14 +46,14 @@ module _ (reading : FrameReading) where
       → StandsForWhole inner_accepts reading.joining.flows.receiver check made handed given → slice_get made.records flow ≡ Some flow_record
       → IsSettledAt reading.joining.flows.receiver.receiver flow → is_selected reading.joining.flows.receiver.selected flow ≡ true → HasGivenSince check made flow flow_record handed given since
 
-  -- **what was counted of the selected flows together**, of each what its summary has, which is
+  -- **what was counted of the flows that are joined, together**, of each what its summary has, which is
   -- what was counted until it began anew, and what was counted since
   pub data AreCounted : List FlowSummary → FlowCounts → Type 0 where
     no_flows : AreCounted [] no_counts
-    passed_over : {flows : List FlowSummary} {counts : FlowCounts} (one : FlowSummary) → AreCounted flows counts → one.is_selected ≡ false
-        → AreCounted (flows ++ one ∷ []) counts
+    passed_over : {flows : List FlowSummary} {counts : FlowCounts} (one : FlowSummary) → AreCounted flows counts
+        → is_selected reading.joining.flows.receiver.selected (length flows) ≡ false → AreCounted (flows ++ one ∷ []) counts
     one_flow : {flows : List FlowSummary} {counts : FlowCounts} (one : FlowSummary) (since : Option FlowCounts) → AreCounted flows counts
-        → one.is_selected ≡ true → IsCountedSince (length flows) since → AreCounted (flows ++ one ∷ []) (with_since (both_counts counts one.counts) since)
+        → is_selected reading.joining.flows.receiver.selected (length flows) ≡ true → IsCountedSince (length flows) since → AreCounted (flows ++ one ∷ []) (with_since (both_counts counts one.counts) since)
 
   -- **This is how far the reading is**, by these summaries of the flows, where so many bytes were
   -- read.

@@ -7,10 +7,12 @@ ghost use Rattle.frame_comparison.specs.Aligned.{Arrival, with_all};
 ghost use Rattle.frame_comparison.specs.Compared.{Comparison, nothing_came};
 ghost use Rattle.frame_comparison.specs.Seen.{seen_of};
 ghost use Rattle.frame_engine.specs.Settings.{inner_accepts};
-ghost use Rattle.frame_engine.specs.Compared.{Brings, arrivals_if, arrivals_of_step, arrivals_of_steps};
+ghost use Rattle.frame_engine.specs.Compared.{Brings, arrivals_if, arrivals_of_step};
+ghost use Rattle.frame_engine.specs.Compared.{arrivals_of_steps};
 ghost use Rattle.frame_engine.specs.Comparing.{IsKeptOf, Takes, TakesBrought, Finishes};
 ghost use Rattle.frame_reasons.specs.Told.{fate_of_taken, told_if, told_in_steps};
-ghost use Rattle.frame_engine.specs.Explaining.{reasons_in, NothingTold, Tells, Explains, ExplainsAfter};
+ghost use Rattle.frame_engine.specs.Explaining.{reasons_in, NothingTold, Tells, Explains};
+ghost use Rattle.frame_engine.specs.Explaining.{ExplainsAfter};
 
 use crate::inner_check::InnerCheck;
 use crate::record_burst::short_sid;

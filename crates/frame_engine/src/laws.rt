@@ -12,12 +12,13 @@ ghost use Rattle.frame_engine.specs.declared.comparing.Comparing.{Comparing};
 ghost use Rattle.frame_engine.specs.Compared.{AreArrivals, AreTheAnalysers, frames_in};
 ghost use Rattle.frame_engine.specs.Comparing.{Finishes, IsComparedFile};
 ghost use Rattle.frame_engine.specs.Judged.{EndsEqual, HasTheAnalysersFrames};
-ghost use Rattle.frame_engine.specs.Joined.{of_all_flows, file_of, whole_file, IsJoinedSoFar, IsJoinedAtEnd, IsJoinedFile};
+ghost use Rattle.frame_engine.specs.Joined.{of_all_flows, file_of, whole_file, IsJoinedSoFar};
+ghost use Rattle.frame_engine.specs.Joined.{IsJoinedAtEnd, IsJoinedFile};
 
 /// **The file of some flows lacks the frames of the others, and nothing else.** Of a capture of
 /// which it is the file there is a whole file too, and one list of what came: the whole file has
-/// all of its frames, and the other those that are left of it. So it is, too, of a file that a fault
-/// cut short, of what came before the fault.
+/// all of its frames, and the other those that are left of it. So it is, too, of a file that a
+/// fault cut short, of what came before the fault.
 pub fn files_of_some_flows_are_of_the_same_frames()
     ensures whole { (settings : CaptureSettings) (capture_map : CaptureMap) (input text : List ℕ)
         → IsJoinedFile settings capture_map input text

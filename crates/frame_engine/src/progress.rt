@@ -1,7 +1,8 @@
 //! How far the reading of a capture is, and who is told.
 ghost use Rattle.std.specs.Prelude.{◌≡◌, true, false, List, []};
 ghost use Rattle.capture_summary.specs.Counting.{both_counts};
-ghost use Rattle.frame_engine.specs.Progress.{KeepsTold, TakesProgress, with_since, AreCounted, TellsProgress};
+ghost use Rattle.frame_engine.specs.Progress.{KeepsTold, TakesProgress, with_since, AreCounted};
+ghost use Rattle.frame_engine.specs.Progress.{TellsProgress};
 
 use crate::frame_reading::FrameReading;
 use crate::tally::CaptureTally;
@@ -52,12 +53,17 @@ impl TakeProgress for NoProgress {
 }
 
 /// What was counted of flows with one more, if it is selected: until it began anew, and since.
-fn with_flow(counts: FlowCounts, one: &FlowSummary, since: Option<FlowCounts>) -> FlowCounts
-    ensures selected { one.now.is_selected ≡ true
+fn with_flow(
+    counts: FlowCounts,
+    is_selected: bool,
+    one: &FlowSummary,
+    since: Option<FlowCounts>,
+) -> FlowCounts
+    ensures selected { is_selected ≡ true
         → result ≡ with_since (both_counts counts one.now.counts) since }
-    ensures other { one.now.is_selected ≡ false → result ≡ counts }
+    ensures other { is_selected ≡ false → result ≡ counts }
 {
-    if !one.is_selected {
+    if !is_selected {
         return counts;
     }
     let counts = both_counts(counts, one.counts);
@@ -67,14 +73,15 @@ fn with_flow(counts: FlowCounts, one: &FlowSummary, since: Option<FlowCounts>) -
     }
 }
 
-/// What was counted so far of the flows that are selected, together.
+/// What was counted so far of the flows that are joined, together.
 fn counts_so_far(reading: &FrameReading, tally: &CaptureTally) -> FlowCounts
     ensures { AreCounted reading.now tally.now.summary.flows.items result }
 {
     let mut counts = FlowCounts::none();
     for flow in 0..tally.summary.flows.len() {
+        let is_selected = reading.joining.flows.selected().has(flow);
         let since = reading.joining.flows.counts(flow);
-        counts = with_flow(counts, &tally.summary.flows[flow], since);
+        counts = with_flow(counts, is_selected, &tally.summary.flows[flow], since);
     }
     counts
 }
