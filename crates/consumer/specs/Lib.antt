@@ -1,3 +1,4 @@
 pub mod Given
 pub mod Counting
+pub mod Inside
 pub mod Collecting

@@ -3,6 +3,7 @@ ghost use Rattle.std.specs.Prelude.{◌≡◌, ℕ, IsTrue, IfOk};
 ghost use Rattle.consumer.specs.Collecting.{HasNothing, AreEmpty, Appends};
 
 use crate::consumer::Consumer;
+use crate::frame_list::FrameList;
 use docsis_wire::Bytes;
 use lane::Request;
 use std::alloc::{AllocError, Global};
@@ -15,7 +16,7 @@ use std::alloc::{AllocError, Global};
 #[derive(Debug, Drop)]
 pub struct Collected {
     /// The frames of each flow, by the index of its record.
-    pub frames: Vec<Vec<Bytes>>,
+    pub frames: Vec<FrameList>,
     /// The requests of each channel.
     pub requests: Vec<Vec<Request>>,
     /// Whether everything was kept.
@@ -32,7 +33,7 @@ impl Collected {
         ensures { IfOk result (HasNothing flow_count channel_count) }
     {
         Ok(Collected {
-            frames: empty_lists(alloc, flow_count)?,
+            frames: no_frames(alloc, flow_count)?,
             requests: empty_lists(alloc, channel_count)?,
             whole: true,
         })
@@ -45,7 +46,7 @@ impl Consumer for Collected {
     ghost after = { HasCollected };
 
     fn frame(&mut self, flow: usize, frame: Bytes) {
-        if !append(&mut self.frames, flow, frame) {
+        if !append_frame(&mut self.frames, flow, frame) {
             self.whole = false;
         }
     }
@@ -57,6 +58,17 @@ impl Consumer for Collected {
     }
 }
 
+/// So many lists with no frame in them.
+fn no_frames(alloc: Global, count: usize) -> Result<Vec<FrameList>, AllocError>
+    ensures { IfOk result (λ lists. AreEmpty count lists.items) }
+{
+    let mut lists = Vec::with_capacity(alloc, count)?;
+    for _ in 0..count {
+        lists.push(FrameList::new(alloc))?;
+    }
+    Ok(lists)
+}
+
 /// So many lists with nothing in them.
 fn empty_lists<T: Drop>(alloc: Global, count: usize) -> Result<Vec<Vec<T>>, AllocError>
     ensures { IfOk result (λ lists. AreEmpty count lists.items) }
@@ -66,6 +78,17 @@ fn empty_lists<T: Drop>(alloc: Global, count: usize) -> Result<Vec<Vec<T>>, Allo
         lists.push(Vec::new(alloc))?;
     }
     Ok(lists)
+}
+
+/// Appends a frame to the list of this index, and says whether it did: there may be no such list,
+/// or no memory.
+fn append_frame(lists: &mut Vec<FrameList>, index: usize, frame: Bytes) -> bool
+    ensures { IsTrue result → Appends lists.old.items index frame lists.new.items }
+{
+    if lists.len() <= index {
+        return false;
+    }
+    lists[index].push(frame).is_ok()
 }
 
 /// Appends an item to the list of this index, and says whether it did: there may be no such list,

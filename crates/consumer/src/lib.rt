@@ -7,7 +7,8 @@
 //! What a consumer makes of what it is given is its own: its relation `after` says which list led
 //! from one of its states to another. Three are here:
 //!
-//! - [`Collected`] keeps everything, as long as it has memory;
+//! - [`Collected`] keeps everything, as long as it has memory, the frames of each flow in a
+//!   [`FrameList`], in which short ones stand end to end;
 //! - [`Counts`] counts frames, their bytes and requests;
 //! - [`Forgets`] keeps nothing.
 //!
@@ -19,6 +20,7 @@ mod collected;
 mod consumer;
 mod counts;
 mod forgets;
+mod frame_list;
 mod given;
 mod giving;
 pub mod laws;
@@ -27,5 +29,6 @@ pub use collected::Collected;
 pub use consumer::Consumer;
 pub use counts::Counts;
 pub use forgets::Forgets;
+pub use frame_list::FrameList;
 pub use given::Given;
 pub use giving::{give_frames, give_request};

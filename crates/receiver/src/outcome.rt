@@ -1,5 +1,5 @@
 //! What a receiver gives for a whole list of inputs on each channel.
-use docsis_wire::Bytes;
+use consumer::FrameList;
 use flow_core::FlowCounts;
 use lane::{CHANNELS, LaneReport, Request};
 
@@ -9,7 +9,7 @@ pub struct FlowOutcome {
     /// The service flow identifier.
     pub sfid: u32,
     /// The frames, in order.
-    pub frames: Vec<Bytes>,
+    pub frames: FrameList,
     /// What was counted.
     pub counts: FlowCounts,
 }

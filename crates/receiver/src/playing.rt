@@ -1,5 +1,7 @@
 //! A receiver to which recorded inputs and decisions are handed in.
-ghost use Rattle.std.specs.Prelude.{◌≡◌, ◌≢◌, ◌<◌, ◌≤◌, ◌+◌, ◌∷◌, ◌++◌, [], ◌⊎◌, nat_lt, ℕ, Bool, false, List, All, Some, IfOk, MatchOption, length, take, slice_get, slice_index_or, slice_set, if◌then◌else◌};
+ghost use Rattle.std.specs.Prelude.{◌≡◌, ◌≢◌, ◌<◌, ◌≤◌, ◌+◌, ◌∷◌, ◌++◌, [], ◌⊎◌, nat_lt, ℕ, Bool};
+ghost use Rattle.std.specs.Prelude.{false, List, All, Some, IfOk, MatchOption, length, take};
+ghost use Rattle.std.specs.Prelude.{slice_get, slice_index_or, slice_set, if◌then◌else◌};
 ghost use Rattle.lane.specs.Limits.{senders, channel_limit};
 ghost use Rattle.lane.specs.declared.report.LaneReport.{LaneReport};
 ghost use Rattle.loss_rule.specs.declared.rule.LossRule.{LossRule};
@@ -9,9 +11,12 @@ ghost use Rattle.receiver.specs.Items.{incoming_of};
 ghost use Rattle.receiver.specs.Order.{IsLawfulOrder};
 ghost use Rattle.receiver.specs.AdmittedOrder.{input_counts};
 ghost use Rattle.receiver.specs.HandedIn.{HandedIn};
-ghost use Rattle.receiver.specs.HandedOrder.{IsSent, flow_decision, handed_decision, gives_item, count_from, IsUsedUp};
+ghost use Rattle.receiver.specs.HandedOrder.{IsSent, flow_decision, handed_decision, gives_item};
+ghost use Rattle.receiver.specs.HandedOrder.{count_from, IsUsedUp};
 ghost use Rattle.receiver.specs.Receiving.{WouldCome};
-ghost use Rattle.receiver.specs.Playing.{Plays, IsPlaying, PlaysOne, PlaysInput, PlaysNext, PlaysMore, PlaysTags, FindsNone, HaveGiven, IsReportWith, IsGiven};
+ghost use Rattle.receiver.specs.Playing.{Plays, IsPlaying, PlaysOne, PlaysInput, PlaysNext};
+ghost use Rattle.receiver.specs.Playing.{PlaysMore, PlaysTags, FindsNone, HaveGiven, IsReportWith};
+ghost use Rattle.receiver.specs.Playing.{IsGiven};
 
 use crate::outcome::{FlowOutcome, Outcome};
 use crate::receiver::Receiver;
@@ -20,7 +25,7 @@ use crate::setup::{Lists, Setup};
 use crate::tally::LaneTally;
 use crate::width::Width;
 use bonded_flows::FlowDecision;
-use consumer::Collected;
+use consumer::{Collected, FrameList};
 use docsis_wire::{Bytes, HeaderCheck};
 use flow_core::FlowCounts;
 use flow_records::Decision;
@@ -396,7 +401,7 @@ fn count_of(lists: &Lists, sender: usize) -> usize
 fn flow_outcomes(
     alloc: Global,
     setup: &Setup,
-    frames: Vec<Vec<Bytes>>,
+    frames: Vec<FrameList>,
     counts: &[FlowCounts],
 ) -> Result<Vec<FlowOutcome>, AllocError>
     requires frames { length frames.items ≡ length setup.now.flows.items }

@@ -1,5 +1,7 @@
 //! A receiver that takes one input at a time.
-ghost use Rattle.std.specs.Prelude.{◌≡◌, ◌≢◌, ◌↔◌, ◌<◌, ◌≤◌, ◌∷◌, [], ◌&&◌, nat_lt, true, false, ℕ, Bool, List, Some, None, Ok, Err, IfOk, IfErr, OnErr, IfSome, length, slice_get};
+ghost use Rattle.std.specs.Prelude.{◌≡◌, ◌≢◌, ◌↔◌, ◌<◌, ◌≤◌, ◌∷◌, [], ◌&&◌, nat_lt, true, false, ℕ};
+ghost use Rattle.std.specs.Prelude.{Bool, List, Some, None, Ok, Err, IfOk, IfErr, OnErr, IfSome};
+ghost use Rattle.std.specs.Prelude.{length, slice_get};
 ghost use Rattle.docsis_wire.specs.Limits.{sequence_modulus};
 ghost use Rattle.flow_records.specs.declared.record.FlowRecord.{FlowRecord};
 ghost use Rattle.lane.specs.Inputs.{outstanding_count};
@@ -19,10 +21,12 @@ ghost use Rattle.receiver.specs.declared.reply.RestartError.{RestartError};
 ghost use Rattle.receiver.specs.Tallies.{IsTallyOf};
 ghost use Rattle.receiver.specs.HandedIn.{HandedIn, decided, made_of, answered_on};
 ghost use Rattle.receiver.specs.Held.{HoldsSince};
-ghost use Rattle.receiver.specs.Receiving.{StandsFor, IsReceiving, TakesMore, IsSettledAt, WouldCome};
+ghost use Rattle.receiver.specs.Receiving.{StandsFor, IsReceiving, TakesMore, IsSettledAt};
+ghost use Rattle.receiver.specs.Receiving.{WouldCome};
 ghost use Rattle.receiver.specs.Receiving.{Replies, Fails, FlowIsSettled, Restarts, HasGivenSince};
 ghost use Rattle.receiver.specs.Receiving.{ChangesOneFlow, ChangesItsFlow, KeepsToItsFlow};
-ghost use Rattle.receiver.specs.Receiving.{IsReadyFor, AnswersFor, TakesAdmitted, IsLossToldRightly, IsNumberExpected};
+ghost use Rattle.receiver.specs.Receiving.{IsReadyFor, AnswersFor, TakesAdmitted};
+ghost use Rattle.receiver.specs.Receiving.{IsLossToldRightly, IsNumberExpected};
 ghost use Rattle.receiver.specs.Receiving.{IsSettledIfTaken, ClosesAFlow};
 ghost use Rattle.receiver.specs.Received.{Closes, BeginsToClose, IsBeingClosed};
 ghost use Rattle.receiver.specs.Widths.{CanReceiveWithin, IsSetupErrorWithin};

@@ -9,7 +9,8 @@ ghost use Rattle.text_lines.specs.Putting.{Puts};
 ghost use Rattle.text_lines.specs.Format.{IsRead, IsReadingFault};
 ghost use Rattle.texts.specs.AnyHeader.{any_header};
 ghost use Rattle.texts.specs.Cut.Line.{nothing, cut_format};
-ghost use Rattle.texts.specs.Cut.{IsCutText, IsCutFault, CannotCut, IsPrinted, PutsCut, segment_line, cut_text_length};
+ghost use Rattle.texts.specs.Cut.{IsCutText, IsCutFault, CannotCut, IsPrinted, PutsCut};
+ghost use Rattle.texts.specs.Cut.{segment_line, cut_text_length};
 
 mod line;
 

@@ -6,7 +6,7 @@ ghost use Rattle.texts.specs.Selected.{report_of};
 ghost use Rattle.texts.specs.Inside.Selected.{selected_flow_lines};
 
 use crate::report_lines::{put_flow_line, put_frame_line, put_lane_line, put_request_line};
-use docsis_wire::Bytes;
+use consumer::FrameList;
 use flow_selection::Selection;
 use lane::{LaneReport, Request};
 use receiver::{FlowOutcome, Outcome};
@@ -14,14 +14,17 @@ use std::alloc::{AllocError, Global};
 use text_lines::{PutText, TextBuffer};
 
 /// Puts the lines of the frames of the flow with this index.
-fn put_frames<O: PutText>(out: &mut O, k: usize, frames: &[Bytes])
-    ensures { Puts O.after out.old (flat_map (frame_line k) frames.now) out.new }
+fn put_frames<O: PutText>(out: &mut O, k: usize, frames: &FrameList)
+    ensures { Puts O.after out.old (flat_map (frame_line k) frames.now.items) out.new }
 {
-    for frame in frames {
+    for index in 0..frames.len() {
         if out.is_closed() {
             return;
         }
-        put_frame_line(out, k, frame.as_slice());
+        let Some(frame) = frames.get(index) else {
+            return;
+        };
+        put_frame_line(out, k, frame);
     }
 }
 

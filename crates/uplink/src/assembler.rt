@@ -1,5 +1,6 @@
 //! The assembler, which is the caller of a running receiver.
-ghost use Rattle.std.specs.Prelude.{◌≡◌, ◌<◌, ◌≤◌, ◌++◌, ◌∷◌, [], ℕ, List, Some, true, IsTrue, IfSome, IfOk, MatchOption, length, map};
+ghost use Rattle.std.specs.Prelude.{◌≡◌, ◌<◌, ◌≤◌, ◌++◌, ◌∷◌, [], ℕ, List, Some, true, IsTrue};
+ghost use Rattle.std.specs.Prelude.{IfSome, IfOk, MatchOption, length, map};
 ghost use Rattle.docsis_wire.specs.Ready.{IsReady};
 ghost use Rattle.mailbox.specs.Mouths.{places, taken, ended};
 ghost use Rattle.delivery.specs.Feeders.{feeder_ring, closed_ring};
@@ -12,8 +13,10 @@ ghost use Rattle.bonded_flows.specs.Parts.{comes};
 ghost use Rattle.bonded_flows.specs.Table.{IsInUse};
 ghost use Rattle.receiver.specs.TakenInOrder.{table_input_of};
 ghost use Rattle.uplink.specs.Inside.Feeding.{rings_of, HasOffered, IsClosedAfter};
-ghost use Rattle.uplink.specs.Inside.Offering.{HasOrder, HasAssembledSoFar, Takes, TakesItem, ClosesFlows, HasAssembled};
-ghost use Rattle.uplink.specs.Inside.Offering.{TakesAtMost, FeedsAtMost, ClosesFirst, HasAssembledFirst};
+ghost use Rattle.uplink.specs.Inside.Offering.{HasOrder, HasAssembledSoFar, Takes, TakesItem};
+ghost use Rattle.uplink.specs.Inside.Offering.{ClosesFlows, HasAssembled};
+ghost use Rattle.uplink.specs.Inside.Offering.{TakesAtMost, FeedsAtMost, ClosesFirst};
+ghost use Rattle.uplink.specs.Inside.Offering.{HasAssembledFirst};
 
 use crate::feeding::Feeding;
 use bonded_flows::{FlowDecision, FlowTable};

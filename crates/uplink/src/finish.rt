@@ -5,9 +5,8 @@ ghost use Rattle.uplink.specs.Inside.Running.{CanSettle, HasConcluded};
 ghost use Rattle.uplink.specs.Inside.Collected.{AreFlowsOf, CanBeMade, IsMadeOf};
 
 use crate::assembler::Assembled;
-use consumer::Collected;
+use consumer::{Collected, FrameList};
 use delivery::ClosedFeeder;
-use docsis_wire::Bytes;
 use flow_core::{FlowCounts, FlowRecord};
 use lane::{CHANNELS, LaneReport, Request};
 use mailbox::{ClosedPort, ClosedPorts, Mouth, settle};
@@ -173,7 +172,7 @@ fn report_on(notes: SourceNotes<LaneReport>, channel: usize) -> LaneReport
 fn flows_of(
     alloc: Global,
     records: &[FlowRecord],
-    frames: Vec<Vec<Bytes>>,
+    frames: Vec<FrameList>,
     counts: &[FlowCounts],
 ) -> Result<Vec<FlowOutcome>, AllocError>
     requires frames { length frames.items ≡ length records.now }

@@ -4,7 +4,8 @@
 //! mailbox, from which the caller, the assembler, takes. Lane workers post requests into a second
 //! mailbox, from which the worker of requests takes. The assembler offers frames to a ring for each
 //! flow, from which the worker of frames takes.
-ghost use Rattle.std.specs.Prelude.{◌≡◌, ◌<◌, Bool, ℕ, List, Some, IfOk, IfErr, IfSome, length, slice_get};
+ghost use Rattle.std.specs.Prelude.{◌≡◌, ◌<◌, Bool, ℕ, List, Some, IfOk, IfErr, IfSome, length};
+ghost use Rattle.std.specs.Prelude.{slice_get};
 ghost use Rattle.loss_rule.specs.declared.rule.LossRule.{LossRule};
 ghost use Rattle.uplink.specs.declared.finish.Concluded.{Concluded};
 ghost use Rattle.receiver.specs.declared.tally.LaneTally.{LaneTally};

@@ -12,8 +12,8 @@ ghost use Rattle.uplink.specs.Inside.Collected.{AreFlowsOf};
 ghost use Rattle.uses.specs.Midstream.{arrival, TakesAll, ClosesAll};
 
 use bonded_flows::{FlowDecision, FlowTable};
-use consumer::{Collected, Consumer, laws};
-use docsis_wire::{Bytes, HeaderCheck, ReadySegment};
+use consumer::{Collected, Consumer, FrameList, laws};
+use docsis_wire::{HeaderCheck, ReadySegment};
 use flow_core::{FlowCounts, FlowRecord};
 use loss_rule::LossRule;
 use receiver::{BadSetup, FlowOutcome, Setup, Width};
@@ -155,7 +155,7 @@ fn close_all<C: HeaderCheck + Drop, O: Consumer>(
 fn outcomes_of(
     alloc: Global,
     records: &[FlowRecord],
-    given: Vec<Vec<Bytes>>,
+    given: Vec<FrameList>,
     counts: &[FlowCounts],
 ) -> Result<Vec<FlowOutcome>, AllocError>
     requires frames { length given.items ≡ length records.now }

@@ -45,8 +45,8 @@ fn expect_frames(rt: &impl Abort, collected: &Collected, flow: usize, expected: 
         return;
     };
     assert!(rt; frames.len() == expected.len());
-    for (frame, bytes) in frames.iter().zip(expected) {
-        assert!(rt; frame.as_slice() == *bytes);
+    for (index, bytes) in expected.iter().enumerate() {
+        assert!(rt; frames.get(index) == Some(*bytes));
     }
 }
 

@@ -5,4 +5,6 @@
 #![tactic(auto)]
 
 #[cfg(test)]
+mod frame_lists;
+#[cfg(test)]
 mod given_in_order;

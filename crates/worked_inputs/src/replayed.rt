@@ -1,7 +1,7 @@
 //! Traces that are replayed besides, with the same answer.
 use crate::handing_in::{close, hand_in_all, receiver_of};
-use consumer::Collected;
-use docsis_wire::{Bytes, NoCheck};
+use consumer::{Collected, FrameList};
+use docsis_wire::NoCheck;
 use receiver::{Closed, LaneTally, Outcome, admitted_order, replay};
 use std::alloc::Global;
 use std::process::Abort;
@@ -41,12 +41,9 @@ fn expect_replayed(
     }
 }
 
-fn same_frames(frames: &[Bytes], wanted: &[Bytes]) -> bool {
+fn same_frames(frames: &FrameList, wanted: &FrameList) -> bool {
     frames.len() == wanted.len()
-        && frames
-            .iter()
-            .zip(wanted)
-            .all(|(frame, want)| frame.as_slice() == want.as_slice())
+        && (0..wanted.len()).all(|index| frames.get(index) == wanted.get(index))
 }
 
 /// Takes the lines of a case before this place one at a time and closes; and replays them.

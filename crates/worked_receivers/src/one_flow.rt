@@ -63,8 +63,8 @@ fn expect_given(rt: &impl Abort, out: &Collected, expected: &[u8]) {
         return;
     };
     assert!(rt; frames.len() == expected.len());
-    for (frame, byte) in frames.iter().zip(expected) {
-        assert!(rt; frame.as_slice().get(6) == Some(byte));
+    for (index, byte) in expected.iter().enumerate() {
+        assert!(rt; frames.get(index).and_then(|frame| frame.get(6)) == Some(byte));
     }
 }
 

@@ -133,8 +133,8 @@ fn expect_given(rt: &impl Abort, out: &Collected, flow: usize, expected: &[u8]) 
         return;
     };
     assert!(rt; frames.len() == expected.len());
-    for (frame, byte) in frames.iter().zip(expected) {
-        assert!(rt; frame.as_slice().last() == Some(byte));
+    for (index, byte) in expected.iter().enumerate() {
+        assert!(rt; frames.get(index).and_then(|frame| frame.last()) == Some(byte));
     }
 }
 

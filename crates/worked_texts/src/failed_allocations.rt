@@ -9,7 +9,7 @@ use docsis_wire::{Bytes, FillByte};
 use flow_core::FlowCounts;
 use lane::{LaneReport, Request};
 use loss_rule::LossRule;
-use receiver::{FlowOutcome, Outcome};
+use receiver::{FlowOutcome, FrameList, Outcome};
 use std::alloc::{AllocError, Global};
 use std::process::Abort;
 use std::test::Fail;
@@ -146,7 +146,8 @@ fn sample_outcome(alloc: Global) -> Result<Outcome, AllocError> {
         frames: 6,
         skipped: u64::MAX,
     };
-    let frame = Bytes::from(Vec::from_slice(alloc, &[0x0a, 0xff])?);
+    let mut frames = FrameList::new(alloc);
+    frames.push(Bytes::from(Vec::from_slice(alloc, &[0x0a, 0xff])?))?;
     let request = Request {
         channel: 1,
         flow: 0,
@@ -163,12 +164,12 @@ fn sample_outcome(alloc: Global) -> Result<Outcome, AllocError> {
         flows: vec![in alloc;
             FlowOutcome {
                 sfid: 9,
-                frames: vec![in alloc; frame]?,
+                frames,
                 counts
             },
             FlowOutcome {
                 sfid: u32::MAX,
-                frames: Vec::new(alloc),
+                frames: FrameList::new(alloc),
                 counts
             },
         ]?,

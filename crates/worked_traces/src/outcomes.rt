@@ -2,8 +2,8 @@
 use crate::traces::FLOW;
 use flow_core::FlowCounts;
 use lane::{LaneReport, Request};
-use receiver::{FlowOutcome, Outcome};
-use worked_frames::samples::{EXTENDED, PLAIN, same_bytes};
+use receiver::{FlowOutcome, FrameList, Outcome};
+use worked_frames::samples::{EXTENDED, PLAIN};
 
 pub const NO_COUNTS: FlowCounts = FlowCounts {
     kept: 0,
@@ -84,8 +84,17 @@ pub const BOTH_FRAMES: Expected = Expected {
     ..NO_FLOW
 };
 
+/// Whether these are the wanted frames.
+fn same_frames(frames: &FrameList, wanted: &[&[u8]]) -> bool {
+    frames.len() == wanted.len()
+        && wanted
+            .iter()
+            .enumerate()
+            .all(|(index, want)| frames.get(index) == Some(*want))
+}
+
 fn gave(flow: &FlowOutcome, want: &Gives) -> bool {
-    flow.sfid == want.sfid && flow.counts == want.counts && same_bytes(&flow.frames, want.frames)
+    flow.sfid == want.sfid && flow.counts == want.counts && same_frames(&flow.frames, want.frames)
 }
 
 /// Whether there are as many flows, and each gave what is wanted of it.

@@ -60,8 +60,8 @@ fn gives_what_was_sent_from_a_number_far_ahead_on(rt: HostRuntime) -> Result<(),
     assert!(rt; flows[0].counts.beyond == 0);
     assert!(rt; flows[0].counts.lost == 100);
     assert!(rt; flows[0].frames.len() == FRAMES.len());
-    for (frame, wanted) in flows[0].frames.iter().zip(FRAMES) {
-        assert!(rt; frame.as_slice() == wanted);
+    for (index, wanted) in FRAMES.iter().enumerate() {
+        assert!(rt; flows[0].frames.get(index) == Some(*wanted));
     }
     Ok(())
 }

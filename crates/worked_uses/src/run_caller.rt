@@ -62,6 +62,6 @@ fn receives_a_frame_in_two_segments_on_two_channels(rt: HostRuntime) -> Result<(
     let flows = receive(alloc, rt, setup, sources, decisions, NoCheck)?;
     assert!(rt; flows.len() == 1);
     assert!(rt; flows[0].frames.len() == 1);
-    assert!(rt; flows[0].frames[0].as_slice() == FRAME);
+    assert!(rt; flows[0].frames.get(0) == Some(FRAME));
     Ok(())
 }

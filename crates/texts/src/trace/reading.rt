@@ -1,5 +1,6 @@
 //! The lines of a trace, one after another.
-ghost use Rattle.std.specs.Prelude.{◌≡◌, ◌≤◌, ◌<◌, ◌↔◌, ◌⊎◌, [], ◌∷◌, ◌++◌, IsTrue, OnOk, IfOk, IfErr, vec_len};
+ghost use Rattle.std.specs.Prelude.{◌≡◌, ◌≤◌, ◌<◌, ◌↔◌, ◌⊎◌, [], ◌∷◌, ◌++◌, IsTrue, OnOk, IfOk};
+ghost use Rattle.std.specs.Prelude.{IfErr, vec_len};
 ghost use Rattle.lane.specs.Limits.{channel_limit};
 ghost use Rattle.texts.specs.Trace.{IsTrace, IsTraceFault};
 ghost use Rattle.texts.specs.Trace.Line.{word_of, flow_line, sid_line};

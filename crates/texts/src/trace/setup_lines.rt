@@ -1,5 +1,6 @@
 //! The lines of a trace that set a receiver up, one after another.
-ghost use Rattle.std.specs.Prelude.{◌≡◌, ◌≤◌, ◌<◌, ◌↔◌, ◌∷◌, [], IsTrue, IfOk, OnOk, IfErr, vec_len};
+ghost use Rattle.std.specs.Prelude.{◌≡◌, ◌≤◌, ◌<◌, ◌↔◌, ◌∷◌, [], IsTrue, IfOk, OnOk, IfErr};
+ghost use Rattle.std.specs.Prelude.{vec_len};
 ghost use Rattle.receiver.specs.Widths.{CanReceiveWithin};
 ghost use Rattle.texts.specs.Trace.Line.{shape_of};
 ghost use Rattle.text_lines.specs.Inside.LineFault.{IsLineFault};

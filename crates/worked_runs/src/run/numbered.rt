@@ -1,9 +1,8 @@
 //! Segments with a frame each, every fourth of which comes on one channel.
-use docsis_wire::Bytes;
 use flow_core::{FlowCounts, FlowRecord};
 use std::alloc::{AllocError, Global};
 use std::process::Abort;
-use uplink::{FlowOutcome, Input, Lists, Outcome, Setup};
+use uplink::{FlowOutcome, FrameList, Input, Lists, Outcome, Setup};
 use worked_traces::outcomes::{NO_COUNTS, senders_of};
 use worked_traces::traces::{FLOW, FOUR_ROWS, push_segment, setup_of};
 
@@ -65,15 +64,17 @@ pub fn lists(alloc: Global, all: u16) -> Result<Lists, AllocError> {
 }
 
 /// Whether these are all frames, in the order of their numbers.
-fn are_numbered(frames: &[Bytes], all: u16) -> bool {
+fn are_numbered(frames: &FrameList, all: u16) -> bool {
     frames.len() == usize::from(all) && are_first(frames, all)
 }
 
 /// Whether these are the first of so many frames, in the order of their numbers.
-pub fn are_first(frames: &[Bytes], all: u16) -> bool {
-    frames.len() <= usize::from(all)
-        && (0..all).zip(frames).all(|(number, frame)| frame.as_slice()
-            == frame_of(number).as_slice())
+pub fn are_first(frames: &FrameList, all: u16) -> bool {
+    let is_its_own = |number: u16| match frames.get(usize::from(number)) {
+        Some(frame) => frame == frame_of(number).as_slice(),
+        None => true,
+    };
+    frames.len() <= usize::from(all) && (0..all).all(is_its_own)
 }
 
 /// Whether the one flow gave all frames.

@@ -9,8 +9,9 @@ use std::test::Fail;
 use std::thread::Threads;
 use std::vec::IntoIter;
 use uplink::{
-    ChannelInput, Collected, Foreknown, Forgets, Input, LaneTally, ListDecisions, LiveSource,
-    LossRule, ReceiveError, Received, RunFault, Setup, SidRow, Sources, Strays, Width, receive,
+    ChannelInput, Collected, Foreknown, Forgets, FrameList, Input, LaneTally, ListDecisions,
+    LiveSource, LossRule, ReceiveError, Received, RunFault, Setup, SidRow, Sources, Strays, Width,
+    receive,
 };
 use worked_traces::traces::{FLOW, setup_of};
 
@@ -167,10 +168,12 @@ fn dealt(alloc: Global) -> Result<Lists, AllocError> {
 }
 
 /// Whether the frames of a flow are so many, and each ends as its number does.
-fn are_in_order(frames: &[Bytes], all: u16) -> bool {
-    let ends = |(number, frame): (u16, &Bytes)| frame.as_slice().last()
-        == number.to_le_bytes().first();
-    frames.len() == usize::from(all) && (0..all).zip(frames).all(ends)
+fn are_in_order(frames: &FrameList, all: u16) -> bool {
+    let ends = |number: u16| match frames.get(usize::from(number)) {
+        Some(frame) => frame.last() == number.to_le_bytes().first(),
+        None => false,
+    };
+    frames.len() == usize::from(all) && (0..all).all(ends)
 }
 
 /// All frames came in order, each channel admitted its share, and these were strays.
@@ -271,7 +274,7 @@ fn receives_many_flows(rt: HostRuntime) -> Result<(), Fail> {
     )?;
     let received = answer.ok().ok_or("received")?;
     assert!(rt; received.flows.len() == usize::from(FLOWS), "flows");
-    let are_two = |frames: &Vec<Bytes>| are_in_order(frames, 2);
+    let are_two = |frames: &FrameList| are_in_order(frames, 2);
     assert!(rt; received.consumer.frames.iter().all(are_two), "frames");
     Ok(())
 }

@@ -6,4 +6,4 @@ use Rattle.texts.proofs.report_text.put_flow.Goals as goal
 pub returns-then-has : goal.returns-then-has
 returns-then-has g c =
     let is : is_selected c.args.selected.now c.args.k ≡ true = sym c.has.ensures ∙ c.if-has.true in
-    rw is (rw c.deref.ensures.value at (puts-then g.O.PutText.after c.put_flow_line.ensures c.put_frames.ensures))
+    rw is (puts-then g.O.PutText.after c.put_flow_line.ensures c.put_frames.ensures)

@@ -1,0 +1,106 @@
+//! Frames that are kept in order.
+ghost use Rattle.std.specs.Prelude.{◌≡◌, ◌≤◌, ◌↔◌, ◌++◌, ◌∷◌, [], ℕ, List, All, Some, None, length};
+ghost use Rattle.std.specs.Prelude.{IsTrue, IfSome, OnOk, OnErr, slice_get};
+
+use docsis_wire::Bytes;
+use std::alloc::{AllocError, Global};
+use std::fmt;
+use std::marker::Model;
+
+/// A frame of so many bytes or more keeps the memory that it came in. A shorter one is copied, so
+/// that it needs no memory of its own beside its bytes.
+const LONG_MIN: usize = 64;
+
+/// The frames of a flow, in order. Contracts see a `Vec` of them.
+///
+/// Short frames are copied, and stand end to end.
+#[derive(Drop)]
+pub struct FrameList {
+    /// The bytes of the short frames.
+    short: Vec<u8>,
+    frames: Vec<Kept>,
+}
+
+/// A frame: where it stands among the short ones, or its own bytes.
+#[derive(Drop)]
+enum Kept {
+    Short { start: usize, end: usize },
+    Long(Bytes),
+}
+
+impl Model for FrameList {
+    ghost use Rattle.std.specs.Prelude.{ℕ, Vec, List, All};
+    ghost use Rattle.std.specs.declared.alloc.Global.{Global};
+
+    ghost Value = { Vec (List ℕ) Global };
+
+    ghost use Rattle.consumer.specs.Inside.KeptFrames.{frames_kept, HasPlace};
+
+    ghost view = { λ list. frames_kept list.short.items list.frames };
+
+    ghost invariant = { λ list. All (HasPlace list.short.items) list.frames.items };
+}
+
+impl fmt::Debug for FrameList {
+    fn fmt<W: fmt::Write>(&self, f: &mut fmt::Formatter<W>) -> fmt::Result {
+        let mut list = f.debug_list();
+        for index in 0..self.len() {
+            if let Some(frame) = self.get(index) {
+                list.entry(&frame);
+            }
+        }
+        list.finish()
+    }
+}
+
+impl FrameList {
+    /// No frame.
+    pub fn new(alloc: Global) -> FrameList
+        ensures { result.items ≡ [] }
+    {
+        FrameList {
+            short: Vec::new(alloc),
+            frames: Vec::new(alloc),
+        }
+    }
+
+    pub fn len(&self) -> usize
+        ensures { result ≡ length self.now.items }
+    {
+        self.frames.len()
+    }
+
+    pub fn is_empty(&self) -> bool
+        ensures { IsTrue result ↔ (self.now.items ≡ []) }
+    {
+        self.frames.is_empty()
+    }
+
+    /// The frame at this place, or none if there are no more than so many.
+    pub fn get(&self, index: usize) -> Option<&[u8]>
+        ensures frame { IfSome result (λ frame. slice_get self.now.items index ≡ Some frame.now) }
+        ensures none { result ≡ None ↔ (length self.now.items ≤ index) }
+    {
+        match self.frames.get(index)? {
+            Kept::Short { start, end } => Some(&self.short[*start..*end]),
+            Kept::Long(frame) => Some(frame.as_slice()),
+        }
+    }
+
+    /// Adds a frame at the end. Where an allocation fails it is dropped.
+    pub fn push(&mut self, frame: Bytes) -> Result<(), AllocError>
+        ensures pushed { OnOk result (self.new.items ≡ self.old.items ++ frame ∷ []) }
+        ensures unchanged { OnErr result (self.new.items ≡ self.old.items) }
+    {
+        self.frames.reserve(1)?;
+        if frame.len() >= LONG_MIN {
+            self.frames.push_reserved(Kept::Long(frame));
+            return Ok(());
+        }
+        let start = self.short.len();
+        self.short.extend_from_slice(frame.as_slice())?;
+        let end = self.short.len();
+        self.frames.push_reserved(Kept::Short { start, end });
+        Ok(())
+    }
+}

@@ -1,0 +1,37 @@
+//! Tests to be run with the Nth request for memory refused. Each says `refused` when a call was.
+use super::{LENGTHS, expect_listed, frame};
+use consumer::FrameList;
+use std::alloc::Global;
+use std::process::Abort;
+use std::test::Fail;
+use worked_frames::refused::{say_refused, say_whether_refused};
+
+/// Adds frames of these lengths, each once more where the first call was refused memory, after
+/// which the list has the frames before it.
+fn push_again(
+    rt: &(impl Print + Abort),
+    alloc: Global,
+    frames: &mut FrameList,
+) -> Result<(), Fail> {
+    for (place, len) in (0..).zip(LENGTHS) {
+        let before = frames.len();
+        let added = match frame(alloc, place, len) {
+            Ok(first) => frames.push(first),
+            Err(error) => Err(error),
+        };
+        if added.is_err() {
+            say_refused(rt)?;
+            expect_listed(rt, frames, LENGTHS.get(..before).unwrap_or_default());
+            frames.push(frame(alloc, place, len)?)?;
+        }
+    }
+    Ok(())
+}
+
+#[test]
+fn frames_stay_where_memory_fails(rt: HostRuntime) -> Result<(), Fail> {
+    let mut frames = FrameList::new(rt.alloc());
+    push_again(&rt, rt.alloc(), &mut frames)?;
+    expect_listed(&rt, &frames, &LENGTHS);
+    say_whether_refused(&rt, rt.alloc())
+}
