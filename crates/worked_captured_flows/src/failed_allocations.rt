@@ -1,20 +1,23 @@
 //! Each allocation is refused once: what was handed in and given until then is a front of what is
 //! handed in and given in the end, and flows that are made anew give all of it.
 use crate::flows_of_captures::{Seen, bursts_of_each_kind, given_of_each_kind, map_of, verdict_of};
+use crate::some_flows::{bursts_of_two, map_of_two};
+use capture_map::CaptureMap;
 use capture_rules::Arrival;
-use captured_flows::{CaptureConsumer, CapturedFlows, FlowFault, SoundBurst, Waits};
+use captured_flows::{CaptureConsumer, CapturedBurst, CapturedFlows, FlowFault, SoundBurst, Waits};
 use consumer::Consumer;
 use docsis_wire::{Bytes, NoCheck};
 use flow_core::FlowCounts;
-use flow_selection::Selection;
+use flow_selection::{Selection, Shard};
 use lane::Request;
 use loss_rule::LossRule;
-use receiver::{Reply, SetupError};
-use std::alloc::Global;
+use receiver::{Reply, SegmentVerdict, SetupError};
+use std::alloc::{AllocError, Global};
+use std::process::Abort;
 use std::test::Fail;
 
 /// How much is seen at most.
-const MOST: usize = 16;
+const MOST: usize = 24;
 
 /// Notes what is seen without an allocation.
 #[derive(Drop)]
@@ -82,21 +85,55 @@ impl CaptureConsumer for Log {
     }
 }
 
-/// What is kept of the flow since it began last, where all bursts come to flows that are made for
-/// them, wait no more and are closed.
-fn kept_of_all(alloc: Global, log: &mut Log) -> Result<u64, FlowFault> {
+/// What is handed in, and whose frames are joined.
+#[derive(Drop)]
+struct Capture {
+    map: CaptureMap,
+    bursts: Vec<CapturedBurst>,
+    selected: Selection,
+}
+
+/// Bursts of each kind of one flow.
+fn of_one_flow(alloc: Global) -> Result<Capture, AllocError> {
+    Ok(Capture {
+        map: map_of(alloc, Some(5), 16, 1)?,
+        bursts: bursts_of_each_kind(alloc)?,
+        selected: Selection::All,
+    })
+}
+
+/// Bursts of two flows, of which the first alone is selected.
+fn of_two_flows(alloc: Global) -> Result<Capture, AllocError> {
+    let mut bursts = bursts_of_two(alloc, false)?;
+    bursts.append(&mut bursts_of_two(alloc, true)?)?;
+    Ok(Capture {
+        map: map_of_two(alloc)?,
+        bursts,
+        selected: Selection::Shard(Shard {
+            remainder: 0,
+            count: 2,
+        }),
+    })
+}
+
+/// What is kept of the first flow since it began last, where all bursts come to flows that are made
+/// for them, wait no more and are closed.
+fn kept_of_capture(alloc: Global, capture: Capture, log: &mut Log) -> Result<u64, FlowFault> {
     let waits = Waits {
         reorder: 0,
         wait: 20,
     };
-    let bursts = bursts_of_each_kind(alloc)?;
-    let map = map_of(alloc, Some(5), 16, 1)?;
+    let Capture {
+        map,
+        bursts,
+        selected,
+    } = capture;
     let mut captured = match CapturedFlows::new(
         alloc,
         map,
         LossRule::Decided,
         waits,
-        Selection::All,
+        selected,
         NoCheck,
     ) {
         Ok(captured) => captured,
@@ -112,19 +149,75 @@ fn kept_of_all(alloc: Global, log: &mut Log) -> Result<u64, FlowFault> {
     }
 }
 
-#[test]
-fn bursts_come_to_their_flow(rt: HostRuntime) -> Result<(), Fail> {
-    let wanted = given_of_each_kind();
+/// The same of one flow, or of two, of which the first alone is selected.
+fn kept_of_flows(alloc: Global, flows: usize, log: &mut Log) -> Result<u64, FlowFault> {
+    let capture = if flows == 1 {
+        of_one_flow(alloc)
+    } else {
+        of_two_flows(alloc)
+    };
+    match capture {
+        Ok(capture) => kept_of_capture(alloc, capture, log),
+        Err(AllocError) => Err(FlowFault::OutOfMemory),
+    }
+}
+
+/// What is seen of two flows, of which the first alone is selected: of the second each burst, what
+/// became of it and its request, but no frame, nor that it begins anew.
+fn seen_of_two_flows() -> [Seen; 20] {
+    let kept = Some(SegmentVerdict::Kept);
+    [
+        Seen::HandedIn(1, 2, Some(2)),
+        Seen::Replied(1, Some(2), kept),
+        Seen::HandedIn(0, 1, Some(1)),
+        Seen::Request(0),
+        Seen::Frame(0, 51),
+        Seen::Replied(0, Some(1), kept),
+        Seen::HandedIn(1, 3, Some(3)),
+        Seen::Request(0),
+        Seen::Replied(1, Some(3), kept),
+        Seen::HandedIn(1, 35, Some(35)),
+        Seen::Replied(1, Some(35), kept),
+        Seen::HandedIn(0, 4, Some(4)),
+        Seen::Frame(0, 52),
+        Seen::Replied(0, Some(4), kept),
+        Seen::BeganAnew(0, 2, 0),
+        Seen::HandedIn(0, 215, Some(215)),
+        Seen::Frame(0, 53),
+        Seen::Replied(0, Some(215), kept),
+        Seen::HandedIn(1, 125, Some(125)),
+        Seen::Replied(1, Some(125), kept),
+    ]
+}
+
+/// Hands the bursts of so many flows in, and once more where the first time an allocation was
+/// refused; what was seen until then is the front of what is seen at last.
+fn expect_seen(
+    rt: &(impl Print + Abort),
+    alloc: Global,
+    flows: usize,
+    wanted: &[Seen],
+) -> Result<(), Fail> {
     let mut log = Log::new();
-    let mut kept = kept_of_all(rt.alloc(), &mut log);
+    let mut kept = kept_of_flows(alloc, flows, &mut log);
     if kept == Err(FlowFault::OutOfMemory) {
         println!(rt; "refused")?;
-        assert!(rt; log.is_front_of(&wanted));
+        assert!(rt; log.is_front_of(wanted));
         log = Log::new();
-        kept = kept_of_all(rt.alloc(), &mut log);
+        kept = kept_of_flows(alloc, flows, &mut log);
     }
     assert!(rt; kept == Ok(1));
-    assert!(rt; log.is_front_of(&wanted));
+    assert!(rt; log.is_front_of(wanted));
     assert!(rt; log.count == wanted.len());
     Ok(())
+}
+
+#[test]
+fn bursts_come_to_their_flow(rt: HostRuntime) -> Result<(), Fail> {
+    expect_seen(&rt, rt.alloc(), 1, &given_of_each_kind())
+}
+
+#[test]
+fn bursts_come_to_the_selected_flow(rt: HostRuntime) -> Result<(), Fail> {
+    expect_seen(&rt, rt.alloc(), 2, &seen_of_two_flows())
 }

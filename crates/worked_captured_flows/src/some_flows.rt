@@ -11,8 +11,9 @@ use loss_rule::LossRule;
 use std::alloc::{AllocError, Global};
 use std::test::Fail;
 
-/// A map of two flows that begin at 5, of which the first has the service identifier 7, the second 8.
-fn map_of_two(alloc: Global) -> Result<CaptureMap, AllocError> {
+/// A map of two flows that begin at 5, of which the first has the service identifier 7, the second
+/// 8.
+pub(crate) fn map_of_two(alloc: Global) -> Result<CaptureMap, AllocError> {
     let mut map = map_of(alloc, Some(5), 16, 1)?;
     map.flows.push(MapFlow {
         sfid: 2,
@@ -40,7 +41,10 @@ fn begins_at(mut bytes: Vec<u8>, place: u8) -> Vec<u8> {
 /// is spoiled, and lost where the next comes too late to wait for it; and last a segment of each
 /// begins it anew, which are those that are asked for or left out here. The flow's index, the time,
 /// the number, the request and what is carried.
-fn bursts_of_two(alloc: Global, begin_anew: bool) -> Result<Vec<CapturedBurst>, AllocError> {
+pub(crate) fn bursts_of_two(
+    alloc: Global,
+    begin_anew: bool,
+) -> Result<Vec<CapturedBurst>, AllocError> {
     let begun = frame_of(61);
     let mut rest = Vec::from_slice(alloc, &begun[3..])?;
     for last in [62, 63] {
