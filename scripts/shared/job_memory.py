@@ -16,19 +16,32 @@ SMALL, TIMES = 8 * MIB, 4
 # Of so many turns the least counts: where the system puts things makes some of them larger.
 TURNS = 3
 MAP = "one_flow.map"
-# Replays for some flows: for the one that sends, so that all is told, and for another.
-SHARDS = {"shard_that_tells": ["replay", "--flows", "0"], "shard_that_tells_none": ["replay", "--flows", "1"]}
+# Commands for some flows: a replay for the one that sends, so that all is told, and others for another.
+SHARDS = {
+    "shard_that_tells": ["replay", "--flows", "0"],
+    "shard_that_tells_none": ["replay", "--flows", "1"],
+    "follow_that_tells_none": ["follow", "--flows", "1"],
+    "capture_that_tells_none": ["capture", MAP, "--flows", "1"],
+}
 # The commands whose memory may not grow with their input, and those that hold it and may take so
 # much for each frame.
-FLAT, HOLDING = ("capture", "follow", "shard_that_tells_none"), ("replay", "join", "shard_that_tells")
+FLAT = ("capture", "follow", "shard_that_tells_none", "follow_that_tells_none", "capture_that_tells_none")
+HOLDING = ("replay", "join", "shard_that_tells")
 # How the line of a frame begins.
 FRAME_LINES = {"replay": b"frame ", "join": b"", "shard_that_tells": b"frame "}
 SHORT = 200  # bytes of the frames that have fill behind them
+# A frame of two bytes behind its header, whose check sequence a capture finds wrong.
+TINY = bytes([0, 0, 0, 2, 0, 0, 1, 2])
 
 
 def whole(rng):
     """Segments of which each is a whole frame."""
     return segments(of_pool([SIZE] * 64, rng), SIZE)
+
+
+def tiny(_rng):
+    """Segments of which each is a whole frame of few bytes."""
+    return segments(itertools.repeat(TINY), len(TINY))
 
 
 def filled(rng):
@@ -37,7 +50,7 @@ def filled(rng):
         yield header(0, number) + frame + bytes(SIZE - len(frame))
 
 
-SHAPES = {shape.__name__: shape for shape in (ordinary, whole, filled)}
+SHAPES = {shape.__name__: shape for shape in (ordinary, whole, filled, tiny)}
 
 
 def join_text(sent):
@@ -50,12 +63,14 @@ def trace_text(sent):
         yield grant(number % CHANNELS, number, 0, segment) + burst(number % CHANNELS, number, segment)
 
 
-INPUTS = {"capture": packed, "join": join_text, **dict.fromkeys(("follow", "replay", *SHARDS), trace_text)}
+INPUTS = {"join": join_text, **dict.fromkeys(("follow", "replay", *SHARDS), trace_text)}
+INPUTS |= dict.fromkeys(("capture", "capture_that_tells_none"), packed)
 
 
 def words_of(command, room):
     """The words of a command; `capture` has the map beside its input."""
-    return [command, os.path.join(room, MAP)] if command == "capture" else SHARDS.get(command, [command])
+    words = ["capture", MAP] if command == "capture" else SHARDS.get(command, [command])
+    return [os.path.join(room, word) if word == MAP else word for word in words]
 
 
 def write_input(command, shape, size, file):
