@@ -1,5 +1,6 @@
 //! On which channels each flow has a service identifier.
-ghost use Rattle.std.specs.Prelude.{◌≡◌, ◌<◌, ◌≤◌, ℕ, List, Bool, Some, IfOk, length, slice_get, take};
+ghost use Rattle.std.specs.Prelude.{◌≡◌, ◌<◌, ◌≤◌, ℕ, List, Bool, Some, IfOk, length, slice_get};
+ghost use Rattle.std.specs.Prelude.{take};
 ghost use Rattle.lane.specs.Limits.{most_channels};
 ghost use Rattle.lane.specs.Rows.{CanBeOpenedWithin};
 ghost use Rattle.bonded_flows.specs.Channels.{channels_within};

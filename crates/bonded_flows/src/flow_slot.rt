@@ -1,5 +1,6 @@
 //! One place of a table: a flow that is begun when its first segment comes.
-ghost use Rattle.std.specs.Prelude.{◌≡◌, ◌≢◌, ◌<◌, ◌≤◌, ◌∷◌, [], ℕ, Bool, List, None, Err, IfOk, IfErr, OnErr};
+ghost use Rattle.std.specs.Prelude.{◌≡◌, ◌≢◌, ◌<◌, ◌≤◌, ◌∷◌, [], ℕ, Bool, List, None, Err, IfOk};
+ghost use Rattle.std.specs.Prelude.{IfErr, OnErr};
 ghost use Rattle.docsis_wire.specs.Limits.{sequence_modulus};
 ghost use Rattle.docsis_wire.specs.Ready.{IsReady};
 ghost use Rattle.flow_records.specs.Setup.{IsInRange};
@@ -11,7 +12,8 @@ ghost use Rattle.bonded_flows.specs.FlowSetup.{FlowSetup, ruled_flow};
 ghost use Rattle.bonded_flows.specs.Stands.{HasCome, IsUnderWay, IsSettled};
 ghost use Rattle.std.specs.Box.{box_value};
 ghost use Rattle.bonded_flows.specs.Taking.{Takes, Closes};
-ghost use Rattle.bonded_flows.specs.ByRule.{decision_event, IsTakable, IsTold, IsToldLost, HasGivenByRule};
+ghost use Rattle.bonded_flows.specs.ByRule.{decision_event, IsTakable, IsTold, IsToldLost};
+ghost use Rattle.bonded_flows.specs.ByRule.{HasGivenByRule};
 ghost use Rattle.bonded_flows.specs.Slots.{PartStands, IsInUse, IsPrepared, IsAtRest, IsClosing};
 ghost use Rattle.bonded_flows.specs.Slots.{SlotTakes, BeginsAnew, LeavesOf, held_in, setup_in};
 ghost use Rattle.bonded_flows.specs.declared.flow_slot.DecideFault.{DecideFault};

@@ -1,5 +1,6 @@
 //! All flows of a receiver, each begun when its first segment comes.
-ghost use Rattle.std.specs.Prelude.{◌≡◌, ◌<◌, ◌≤◌, ◌∷◌, [], ℕ, Bool, List, Some, IfOk, IfErr, OnErr, Err, length, slice_get};
+ghost use Rattle.std.specs.Prelude.{◌≡◌, ◌<◌, ◌≤◌, ◌∷◌, [], ℕ, Bool, List, Some, IfOk, IfErr};
+ghost use Rattle.std.specs.Prelude.{OnErr, Err, length, slice_get};
 ghost use Rattle.docsis_wire.specs.Limits.{sequence_modulus};
 ghost use Rattle.docsis_wire.specs.Ready.{IsReady};
 ghost use Rattle.flow_records.specs.Setup.{CanBeSetUpWithin};
@@ -11,11 +12,13 @@ ghost use Rattle.loss_rule.specs.Rule.{Coming, Lasts, AreRuled, on_channel, hand
 ghost use Rattle.bonded_flows.specs.FlowSetup.{FlowSetup, ruled_flow};
 ghost use Rattle.bonded_flows.specs.declared.flow_slot.FlowSlot.{FlowSlot};
 ghost use Rattle.consumer.specs.declared.given.Given.{Given};
-ghost use Rattle.bonded_flows.specs.ByRule.{decision_event, IsTakable, IsTold, IsToldLost, HasGivenByRule};
+ghost use Rattle.bonded_flows.specs.ByRule.{decision_event, IsTakable, IsTold, IsToldLost};
+ghost use Rattle.bonded_flows.specs.ByRule.{HasGivenByRule};
 ghost use Rattle.bonded_flows.specs.Parts.{comes};
 ghost use Rattle.bonded_flows.specs.Slots.{LeavesOf, AreNewSlots, held_in};
 ghost use Rattle.bonded_flows.specs.Table.{StandsFor, IsInUse};
-ghost use Rattle.bonded_flows.specs.Table.{IsPreparedAt, IsAtRestAt, IsClosingAt, PartStandsAt, TakesMore, BeginsAnewAt};
+ghost use Rattle.bonded_flows.specs.Table.{IsPreparedAt, IsAtRestAt, IsClosingAt, PartStandsAt};
+ghost use Rattle.bonded_flows.specs.Table.{TakesMore, BeginsAnewAt};
 ghost use Rattle.bonded_flows.specs.Table.{OthersStay, NoneBeginsToClose};
 ghost use Rattle.bonded_flows.specs.declared.flow_slot.DecideFault.{DecideFault};
 ghost use Rattle.bonded_flows.specs.declared.flow_slot.NotReady.{NotReady};

@@ -19,7 +19,8 @@ pub struct BurstFates {
 
 impl BurstFates {
     ghost use Rattle.std.specs.Prelude.{◌<◌, [], IfOk, nat_le, length};
-    ghost use Rattle.burst_fates.specs.Fates.{known_of, told_at, Tells, unknown, reason_of_burst, reason_of};
+    ghost use Rattle.burst_fates.specs.Fates.{known_of, told_at, Tells, unknown, reason_of_burst};
+    ghost use Rattle.burst_fates.specs.Fates.{reason_of};
 
     /// Nothing was told. All memory that will be used is asked for here.
     pub fn new(alloc: Global) -> Result<BurstFates, AllocError>
@@ -38,8 +39,8 @@ impl BurstFates {
         let _ = self.told.push_back(ToldFate { id, fate });
     }
 
-    /// What is known of a burst, by what is kept of what was told: that it was kept, if that was told
-    /// once, and else what was told last.
+    /// What is known of a burst, by what is kept of what was told: that it was kept, if that was
+    /// told once, and else what was told last.
     pub fn fate_of(&self, id: u64) -> Option<BurstFate>
         ensures { result ≡ known_of id self.now.told.items }
     {

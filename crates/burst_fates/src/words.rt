@@ -1,7 +1,9 @@
 //! The words for why a frame wasn't joined.
 ghost use Rattle.std.specs.Prelude.{◌≡◌};
 ghost use Rattle.text_lines.specs.Putting.{Puts};
-ghost use Rattle.burst_fates.specs.Words.{refusal_word, fate_word, fate_for_people, refusal_for_people, fate_text, burst_text, reason_word, burst_in, reason_text};
+ghost use Rattle.burst_fates.specs.Words.{refusal_word, fate_word, fate_for_people};
+ghost use Rattle.burst_fates.specs.Words.{refusal_for_people, fate_text, burst_text, reason_word};
+ghost use Rattle.burst_fates.specs.Words.{burst_in, reason_text};
 
 use crate::burst_fate::BurstFate;
 use crate::missing_reason::MissingReason;

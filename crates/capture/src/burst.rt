@@ -91,7 +91,8 @@ struct BurstNumbers {
 
 ghost use Rattle.capture.specs.Packet.{Parts, packet_bytes, IsPacket};
 ghost use Rattle.capture.specs.Fields.{Field, AreFields, fields_bytes};
-ghost use Rattle.capture.specs.Burst.{Gives, burst_of, burst_of_values, kind_of, values_of, number_said, numbers_of, burst_from, low_24_bits};
+ghost use Rattle.capture.specs.Burst.{Gives, burst_of, burst_of_values, kind_of, values_of};
+ghost use Rattle.capture.specs.Burst.{number_said, numbers_of, burst_from, low_24_bits};
 ghost use Rattle.capture.specs.Inside.Newer.{value_with};
 ghost use Rattle.capture.specs.Seen.{field, value_seen};
 ghost use Rattle.capture.specs.SeenBurst.{SpellsBurst, burst_parts, numbers_seen, values_seen};
@@ -180,7 +181,8 @@ fn burst_of_values<'a>(
     values: LastValues<'_>,
     payload: &'a [u8],
 ) -> Result<Burst<'a>, Passed>
-    ensures { Gives burst_parts result (burst_of_values kind (values_seen values.entry) payload.now) }
+    ensures { Gives burst_parts result
+        (burst_of_values kind (values_seen values.entry) payload.now) }
 {
     let kind = kind_of(kind)?;
     let numbers = numbers_of(values)?;

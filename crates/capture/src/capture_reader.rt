@@ -1,11 +1,14 @@
 //! One reader of captures of either format.
-ghost use Rattle.std.specs.Prelude.{◌≡◌, ◌++◌, ◌↔◌, ℕ, List, [], Some, None, option_map, IfOk, IfErr, IsOk};
+ghost use Rattle.std.specs.Prelude.{◌≡◌, ◌++◌, ◌↔◌, ℕ, List, [], Some, None, option_map, IfOk};
+ghost use Rattle.std.specs.Prelude.{IfErr, IsOk};
 ghost use Rattle.capture.specs.PcapReading.{MovesOn};
 ghost use Rattle.capture.specs.PcapngBlocks.{CaptureParts};
 ghost use Rattle.capture.specs.SeenCapture.{capture_parts, captured_by};
 ghost use Rattle.capture.specs.SeenRecord.{record_parts, given_by};
 ghost use Rattle.capture.specs.Inside.Ready.{IsReady};
-ghost use Rattle.capture.specs.Captures.{pcap_nanoseconds, captured_record, captured_records, HasCaptured, TakesCapture, HasCaptureFault, capture_fault, IsWholeCapture};
+ghost use Rattle.capture.specs.Captures.{pcap_nanoseconds, captured_record, captured_records};
+ghost use Rattle.capture.specs.Captures.{HasCaptured, TakesCapture, HasCaptureFault, capture_fault};
+ghost use Rattle.capture.specs.Captures.{IsWholeCapture};
 
 use crate::capture_fault::CaptureFault;
 use crate::capture_record::{CaptureRecord, CaptureTaken};

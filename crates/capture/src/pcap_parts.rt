@@ -1,9 +1,11 @@
 //! What a reader of pcap takes from a piece of a file: bytes of the part that is next, which is the
 //! file's header, a record's header or a record's bytes.
-ghost use Rattle.std.specs.Prelude.{◌≡◌, ◌≤◌, ◌<◌, [], ◌++◌, length, option_map, IfOk, IfErr, IfSome};
+ghost use Rattle.std.specs.Prelude.{◌≡◌, ◌≤◌, ◌<◌, [], ◌++◌, length, option_map, IfOk, IfErr};
+ghost use Rattle.std.specs.Prelude.{IfSome};
 ghost use Rattle.capture.specs.Pcap.{head_bytes, FitsHead};
 ghost use Rattle.capture.specs.PcapReading.{MovesOn};
-ghost use Rattle.capture.specs.Inside.PcapParts.{Completes, TakesHeader, TakesHead, ReadsHead, TakesBytes, HeaderFault, HeadFault, SplitsRecord};
+ghost use Rattle.capture.specs.Inside.PcapParts.{Completes, TakesHeader, TakesHead, ReadsHead};
+ghost use Rattle.capture.specs.Inside.PcapParts.{TakesBytes, HeaderFault, HeadFault, SplitsRecord};
 
 use crate::endian::Endian;
 use crate::pcap::{
@@ -75,7 +77,8 @@ fn split_head(endian: Endian, piece: &[u8]) -> Option<(RecordHead, &[u8])>
 /// it. None is found where the piece ends before the record does, or it is said to have more than
 /// 1 MiB.
 pub(crate) fn split_record(endian: Endian, piece: &[u8]) -> Option<(RecordHead, &[u8], &[u8])>
-    ensures { IfSome result (λ split. SplitsRecord endian split.0 split.1.now split.2.now piece.now) }
+    ensures { IfSome result (λ split.
+        SplitsRecord endian split.0 split.1.now split.2.now piece.now) }
 {
     let (head, rest) = split_head(endian, piece)?;
     if head.captured > LONGEST_RECORD {

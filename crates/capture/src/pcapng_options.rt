@@ -2,7 +2,8 @@
 //! bytes after it up to a multiple of four.
 ghost use Rattle.std.specs.Prelude.{◌≡◌, ◌++◌, ℕ, List, IfSome, IfNone};
 ghost use Rattle.capture.specs.Seen.{value_seen};
-ghost use Rattle.capture.specs.PcapngOptions.{OptionParts, option_bytes, IsOption, SpellsOptions, SaysUnit, first_value};
+ghost use Rattle.capture.specs.PcapngOptions.{OptionParts, option_bytes, IsOption, SpellsOptions};
+ghost use Rattle.capture.specs.PcapngOptions.{SaysUnit, first_value};
 ghost use Rattle.capture.specs.declared.pcapng.TimeUnit.{TimeUnit};
 ghost use Rattle.capture.specs.Inside.BlockStages.{IsFrontOption, first_or};
 

@@ -1,5 +1,6 @@
 //! What a section of a pcapng file has said, and what its next block adds.
-ghost use Rattle.std.specs.Prelude.{◌≡◌, ℕ, ◌+◌, ◌≤◌, ◌++◌, List, [], length, IfSome, IfNone, OnOk, IfErr, IfOk};
+ghost use Rattle.std.specs.Prelude.{◌≡◌, ℕ, ◌+◌, ◌≤◌, ◌++◌, List, [], length, IfSome, IfNone, OnOk};
+ghost use Rattle.std.specs.Prelude.{IfErr, IfOk};
 ghost use Rattle.std.specs.Int.{w32};
 ghost use Rattle.capture.specs.Endian.{number_bytes};
 ghost use Rattle.capture.specs.Pcapng.{block_kind, least_total, byte_order_magic};
@@ -34,7 +35,8 @@ pub(crate) struct Section {
 /// A section header: a new section begins, without interfaces.
 fn begin_section(head: BlockHead, section: &mut Section, body: &[u8]) -> Result<(), PcapngFault>
     requires kind { block_kind head.number ≡ BlockKind.SectionHeader }
-    requires order { HasOrder BlockKind.SectionHeader (section_parts section.old) head.endian body.now }
+    requires order { HasOrder BlockKind.SectionHeader (section_parts section.old)
+        head.endian body.now }
     requires enough { 16 ≤ length body.now }
     ensures begins { OnOk result (Leaves (section_parts section.old) (block_of head body.now)
         (section_parts section.new) []) }

@@ -2,7 +2,9 @@
 ghost use Rattle.std.specs.Prelude.{◌≡◌, ◌≤◌, ◌<◌, [], length, Option, IfOk, IfErr};
 ghost use Rattle.capture.specs.PcapngBlocks.{SectionParts};
 ghost use Rattle.capture.specs.SeenCapture.{captured_by, section_parts};
-ghost use Rattle.capture.specs.Inside.BlockStages.{wanted, IsFilling, BeginsWithSection, BeginsWithHead, IsPassing, IsKeptAt, IsInBlock, Advances, IsFaultHere, PassesOn, IsFaultWith};
+ghost use Rattle.capture.specs.Inside.BlockStages.{wanted, IsFilling, BeginsWithSection};
+ghost use Rattle.capture.specs.Inside.BlockStages.{BeginsWithHead, IsPassing, IsKeptAt, IsInBlock};
+ghost use Rattle.capture.specs.Inside.BlockStages.{Advances, IsFaultHere, PassesOn, IsFaultWith};
 
 use crate::capture_record::{CaptureRecord, CaptureTaken};
 use crate::endian::Endian;
@@ -174,7 +176,8 @@ fn after_block(
 ) -> Result<Option<CaptureRecord>, PcapngFault>
     requires begins { BeginsWithHead (section_parts section.old) head pending.old.items }
     requires whole { length pending.old.items ≡ head.total }
-    ensures next { IfOk result (λ given. Advances (BlockStage.Whole head) (section_parts section.old)
+    ensures next { IfOk result (λ given.
+        Advances (BlockStage.Whole head) (section_parts section.old)
         pending.old.items BlockStage.Head (section_parts section.new) pending.new.items
         (captured_by given)) }
     ensures fault { IfErr result (IsFaultHere (BlockStage.Whole head) (section_parts section.old)

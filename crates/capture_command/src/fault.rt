@@ -1,6 +1,7 @@
 //! Why a capture isn't read to its end.
 ghost use Rattle.std.specs.Prelude.{◌≡◌};
-ghost use Rattle.capture_command.specs.Fault.{status_of, engine_fault, words_fault, map_fault, setup_fault};
+ghost use Rattle.capture_command.specs.Fault.{status_of, engine_fault, words_fault, map_fault};
+ghost use Rattle.capture_command.specs.Fault.{setup_fault};
 
 use capture_map::MapFault;
 use command_line::UsageFault;

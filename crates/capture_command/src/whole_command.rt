@@ -1,6 +1,7 @@
 //! The command `capture` over any runtime with files, any reader that may be shown the output, and
 //! any two writers.
-ghost use Rattle.std.specs.Prelude.{◌≡◌, ◌++◌, true, false, None, Err, ℕ, List, [], map, Result, OnOk, OnErr, IfOk, IfErr, IfSome};
+ghost use Rattle.std.specs.Prelude.{◌≡◌, ◌++◌, true, false, None, Err, ℕ, List, [], map, Result};
+ghost use Rattle.std.specs.Prelude.{OnOk, OnErr, IfOk, IfErr, IfSome};
 ghost use Rattle.std.specs.Io.KnownBytes.{Appends};
 ghost use Rattle.engines.specs.Device.{inner_of, has_failed, IsFresh};
 ghost use Rattle.engines.specs.Transfer.{AppendsFront};
@@ -11,7 +12,8 @@ ghost use Rattle.capture_command.specs.Progress.{SaysSummary, SaysProgress, Says
 ghost use Rattle.frame_engine.specs.Begun.{ComparesNothing};
 ghost use Rattle.frame_engine.specs.Judged.{EndsEqual};
 ghost use Rattle.engines.specs.declared.fault.EngineFault.TheVariants.{Write};
-ghost use Rattle.capture_command.specs.declared.fault.CaptureCommandFault.TheVariants.{Differs, Engine};
+ghost use Rattle.capture_command.specs.declared.fault.CaptureCommandFault.TheVariants.{Differs};
+ghost use Rattle.capture_command.specs.declared.fault.CaptureCommandFault.TheVariants.{Engine};
 ghost use Rattle.frame_comparison.specs.Seen.{have_none_alone};
 ghost use Rattle.capture_command.specs.declared.fault.CaptureCommandFault.{CaptureCommandFault};
 ghost use Rattle.capture_command.specs.Program.{Captures, Obeys, ComesOf, status_of_outcome};

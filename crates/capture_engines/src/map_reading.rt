@@ -7,7 +7,9 @@ ghost use Rattle.engines.specs.declared.fault.EngineFault.TheVariants.{OutOfMemo
 ghost use Rattle.registrations.specs.Part.{part_seen};
 ghost use Rattle.seen_sids.specs.Seen.{seen_in};
 ghost use Rattle.capture_engines.specs.Telling.{Counts, Shows};
-ghost use Rattle.capture_engines.specs.Inside.Reading.{HasMapped, TakesRecord, TakesMessage, TakesPart, MapsSome, MapsPiece, CannotMap, EndsEarly};
+ghost use Rattle.capture_engines.specs.Inside.Reading.{HasMapped, TakesRecord, TakesMessage};
+ghost use Rattle.capture_engines.specs.Inside.Reading.{TakesPart, MapsSome, MapsPiece, CannotMap};
+ghost use Rattle.capture_engines.specs.Inside.Reading.{EndsEarly};
 
 use capture::{CaptureReader, CaptureRecord, read_burst};
 use engines::EngineFault;

@@ -2,7 +2,9 @@
 ghost use Rattle.std.specs.Prelude.{◌≡◌, ◌++◌, IfOk, OnOk, map, option_map, slice_get};
 ghost use Rattle.std.specs.List.{enumerate_from};
 ghost use Rattle.serde_json.specs.View.{view};
-ghost use Rattle.capture_json.specs.Compared.{sfid_data, compared_data, told_if, only_data, compared_flows, burst_data, reason_data, missing_data};
+ghost use Rattle.capture_json.specs.Compared.{sfid_data, compared_data, told_if, only_data};
+ghost use Rattle.capture_json.specs.Compared.{compared_flows, burst_data, reason_data};
+ghost use Rattle.capture_json.specs.Compared.{missing_data};
 ghost use Rattle.capture_json.specs.Compared.{comparison_data, compared_or_null};
 
 use burst_fates::MissingReason;

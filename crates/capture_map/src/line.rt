@@ -1,7 +1,8 @@
 //! A line of a map, by itself.
 ghost use Rattle.std.specs.Prelude.{◌≡◌, ◌∷◌, IfOk, IfErr};
 ghost use Rattle.text_lines.specs.Lines.{words_of};
-ghost use Rattle.capture_map.specs.Line.{Says, HasFaultByItself, word_of, flow_form, channel_form, sid_form};
+ghost use Rattle.capture_map.specs.Line.{Says, HasFaultByItself, word_of, flow_form, channel_form};
+ghost use Rattle.capture_map.specs.Line.{sid_form};
 
 use crate::fault::MapKind;
 use crate::fields::{channel_said, flow_said, sid_said};

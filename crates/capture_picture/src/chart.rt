@@ -2,7 +2,9 @@
 ghost use Rattle.std.specs.Prelude.{◌≡◌};
 ghost use Rattle.text_lines.specs.Putting.{Puts};
 ghost use Rattle.capture_picture.specs.Grid.{stroke_left};
-ghost use Rattle.capture_picture.specs.Charts.{chart_head, frame_end, index_height, index_stroke, behind_stroke, stroke_text, channel_strokes, channel_path, channel_paths, chart_text};
+ghost use Rattle.capture_picture.specs.Charts.{chart_head, frame_end, index_height, index_stroke};
+ghost use Rattle.capture_picture.specs.Charts.{behind_stroke, stroke_text, channel_strokes};
+ghost use Rattle.capture_picture.specs.Charts.{channel_path, channel_paths, chart_text};
 
 use crate::colours::colour_of;
 use crate::column::Column;

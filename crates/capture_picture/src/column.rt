@@ -2,7 +2,8 @@
 ghost use Rattle.std.specs.Prelude.{◌≡◌, ◌<◌, length, slice_index_or};
 ghost use Rattle.std.specs.List.{fold};
 ghost use Rattle.capture_picture.specs.Spans.{both_spans};
-ghost use Rattle.capture_picture.specs.Columns.{columns_most, no_column, with_span, both_columns, pair_at, halved};
+ghost use Rattle.capture_picture.specs.Columns.{columns_most, no_column, with_span, both_columns};
+ghost use Rattle.capture_picture.specs.Columns.{pair_at, halved};
 
 use crate::marks::Marks;
 use crate::span::{Span, both_spans};

@@ -1,7 +1,8 @@
 //! What is drawn of one flow.
 ghost use Rattle.std.specs.Prelude.{◌≡◌, ◌<◌, IfOk, map};
 ghost use Rattle.capture_picture.specs.Columns.{columns_most};
-ghost use Rattle.capture_picture.specs.ShownFlow.{new_flow, halved_flow, with_segment, with_mark_in};
+ghost use Rattle.capture_picture.specs.ShownFlow.{new_flow, halved_flow, with_segment};
+ghost use Rattle.capture_picture.specs.ShownFlow.{with_mark_in};
 
 use crate::column::{COLUMNS, Column, halve};
 use crate::index::{first_index, nearest_index};

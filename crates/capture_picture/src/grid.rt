@@ -1,6 +1,7 @@
 //! Where columns and channels are drawn.
 ghost use Rattle.std.specs.Prelude.{◌≡◌};
-ghost use Rattle.capture_picture.specs.Grid.{scaled, stroke_width, plot_width, lane_offset, column_left};
+ghost use Rattle.capture_picture.specs.Grid.{scaled, stroke_width, plot_width, lane_offset};
+ghost use Rattle.capture_picture.specs.Grid.{column_left};
 
 /// So many units wide a chart is at most.
 pub(crate) const PLOT_UNITS: u64 = 1024;

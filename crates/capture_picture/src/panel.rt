@@ -1,7 +1,10 @@
 //! What is drawn of one flow.
 ghost use Rattle.std.specs.Prelude.{◌≡◌};
 ghost use Rattle.text_lines.specs.Putting.{Puts};
-ghost use Rattle.capture_picture.specs.Panel.{all_marks, whole_span, mark_head, mark_stroke, mark_strokes, mark_row, mark_rows, marks_text, heading_text, index_labels, behind_labels, axis_text, panel_text};
+ghost use Rattle.capture_picture.specs.Panel.{all_marks, whole_span, mark_head, mark_stroke};
+ghost use Rattle.capture_picture.specs.Panel.{mark_strokes, mark_row, mark_rows, marks_text};
+ghost use Rattle.capture_picture.specs.Panel.{heading_text, index_labels, behind_labels, axis_text};
+ghost use Rattle.capture_picture.specs.Panel.{panel_text};
 
 use crate::chart::{Chart, put_chart};
 use crate::column::Column;

@@ -60,7 +60,10 @@ pub struct CapturePicture {
 
 impl CapturePicture {
     ghost use Rattle.std.specs.Prelude.{◌≡◌, ◌^◌, IsOk, OnOk, OnErr};
-    ghost use Rattle.capture_picture.specs.Picture.{picture_in, new_picture, place_of_flow, doubled, reached, with_segment_at, with_mark_at, with_flow, with_other, other_count, with_burst, with_mark};
+    ghost use Rattle.capture_picture.specs.Picture.{picture_in, new_picture, place_of_flow};
+    ghost use Rattle.capture_picture.specs.Picture.{doubled, reached, with_segment_at};
+    ghost use Rattle.capture_picture.specs.Picture.{with_mark_at, with_flow, with_other};
+    ghost use Rattle.capture_picture.specs.Picture.{other_count, with_burst, with_mark};
     ghost use Rattle.capture_picture.specs.Grid.{used_columns, grid_of, end_of};
 
     /// Nothing came yet. The channels are those of the map, of which the first 16 are kept.

@@ -4,7 +4,9 @@ ghost use Rattle.text_lines.specs.Putting.{Puts};
 ghost use Rattle.capture_picture.specs.Picture.{picture_in};
 ghost use Rattle.capture_picture.specs.Columns.{channels_most};
 ghost use Rattle.capture_picture.specs.ShownFlow.{flows_most};
-ghost use Rattle.capture_picture.specs.PictureText.{panels_top, picture_height, entry_text, entries_text, legend_text, panels_text, others_text, opening_text, picture_text};
+ghost use Rattle.capture_picture.specs.PictureText.{panels_top, picture_height, entry_text};
+ghost use Rattle.capture_picture.specs.PictureText.{entries_text, legend_text, panels_text};
+ghost use Rattle.capture_picture.specs.PictureText.{others_text, opening_text, picture_text};
 
 use crate::colours::colour_of;
 use crate::flow_picture::FlowPicture;
@@ -129,7 +131,8 @@ fn put_opening<O: PutText>(out: &mut O, height: u64)
     put_valued(out, "' width='1200' height='", height);
     put_valued(
         out,
-        "' font-family='sans-serif' font-size='12' shape-rendering='crispEdges'>\n<rect width='1200' height='",
+        "' font-family='sans-serif' font-size='12' shape-rendering='crispEdges'>\n\
+         <rect width='1200' height='",
         height,
     );
     put_word(

@@ -1,5 +1,6 @@
 //! Where a flow begins, and where it begins anew.
-ghost use Rattle.std.specs.Prelude.{◌≡◌, ◌<◌, [], None, IfOk, IfErr, IfSome, IfNone, OnErr, OnSome, is_some};
+ghost use Rattle.std.specs.Prelude.{◌≡◌, ◌<◌, [], None, IfOk, IfErr, IfSome, IfNone, OnErr, OnSome};
+ghost use Rattle.std.specs.Prelude.{is_some};
 ghost use Rattle.reorder.specs.Limits.{modulus};
 ghost use Rattle.capture_rules.specs.Begin.{nothing_handed_on, beginning_seen, is_silent, is_over};
 ghost use Rattle.capture_rules.specs.Begin.{is_beginning, is_kept, to_hand_in, after_hand_on};
@@ -101,7 +102,8 @@ impl<T> Beginning<T> {
     pub fn end_at(&mut self, alloc: Global, time: u64) -> Option<Begun<T>>
         ensures over { is_some result ≡ is_over (beginning_seen self.old).kept time }
         ensures ended { IfSome result (IsEnded (beginning_seen self.old)) }
-        ensures after { OnSome result (beginning_seen self.new ≡ after_end (beginning_seen self.old)) }
+        ensures after { OnSome result
+            (beginning_seen self.new ≡ after_end (beginning_seen self.old)) }
         ensures unchanged { IfNone result (beginning_seen self.new ≡ beginning_seen self.old) }
     {
         let first = self.kept.first()?;
@@ -115,7 +117,8 @@ impl<T> Beginning<T> {
     pub fn end(&mut self, alloc: Global) -> Option<Begun<T>>
         ensures beginning { is_some result ≡ is_beginning (beginning_seen self.old).kept }
         ensures ended { IfSome result (IsEnded (beginning_seen self.old)) }
-        ensures after { OnSome result (beginning_seen self.new ≡ after_end (beginning_seen self.old)) }
+        ensures after { OnSome result
+            (beginning_seen self.new ≡ after_end (beginning_seen self.old)) }
         ensures unchanged { IfNone result (beginning_seen self.new ≡ beginning_seen self.old) }
     {
         let first = first_number(&self.kept)?;

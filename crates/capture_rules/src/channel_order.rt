@@ -1,5 +1,6 @@
 //! The order of the bursts of one flow on each of its channels.
-ghost use Rattle.std.specs.Prelude.{◌≡◌, ◌<◌, ◌≤◌, ◌++◌, ◌∷◌, [], IfOk, IfErr, IfSome, IfNone, OnOk, OnErr, length, is_some, nat_lt};
+ghost use Rattle.std.specs.Prelude.{◌≡◌, ◌<◌, ◌≤◌, ◌++◌, ◌∷◌, [], IfOk, IfErr, IfSome, IfNone};
+ghost use Rattle.std.specs.Prelude.{OnOk, OnErr, length, is_some, nat_lt};
 ghost use Rattle.capture_rules.specs.Clock.{is_set_back, clock_at};
 ghost use Rattle.capture_rules.specs.Order.{most_waiting, nothing_waits, is_due, IsNext, TakesIn};
 ghost use Rattle.capture_rules.specs.Inside.Numbers.{AreNumbersOf, IsFirstWith, count_waiting};

@@ -1,5 +1,6 @@
 //! How long the segments of one flow are held.
-ghost use Rattle.std.specs.Prelude.{◌≡◌, ◌<◌, ◌≤◌, ◌⊎◌, ◌↔◌, ◌++◌, ◌∷◌, [], true, Some, IfSome, OnOk, OnErr};
+ghost use Rattle.std.specs.Prelude.{◌≡◌, ◌<◌, ◌≤◌, ◌⊎◌, ◌↔◌, ◌++◌, ◌∷◌, [], true, Some, IfSome};
+ghost use Rattle.std.specs.Prelude.{OnOk, OnErr};
 ghost use Rattle.reorder.specs.Limits.{modulus};
 ghost use Rattle.reorder.specs.Number.{offset};
 ghost use Rattle.capture_rules.specs.Held.{held_by, wait_of, still_ahead, IsSkip};
@@ -92,7 +93,8 @@ fn later(expected: u16, last: Option<HeldTime>, one: HeldTime) -> HeldTime
     requires { expected < modulus }
     ensures which { (result ≡ one) ⊎ (last ≡ Some result) }
     ensures one { offset expected one.number ≤ offset expected result.number }
-    ensures last { IfSome last (λ last. offset expected last.number ≤ offset expected result.number) }
+    ensures last { IfSome last (λ last.
+        offset expected last.number ≤ offset expected result.number) }
 {
     match last {
         Some(last) if offset(expected, one.number) <= offset(expected, last.number) => last,

@@ -1,11 +1,13 @@
 //! What follows from the definitions alone.
-ghost use Rattle.std.specs.Prelude.{◌≡◌, ◌<◌, ◌≤◌, ◌-◌, ◌++◌, ℕ, List, Option, All, AllPairs, IsPermutation, length};
+ghost use Rattle.std.specs.Prelude.{◌≡◌, ◌<◌, ◌≤◌, ◌-◌, ◌++◌, ℕ, List, Option, All, AllPairs};
+ghost use Rattle.std.specs.Prelude.{IsPermutation, length};
 ghost use Rattle.reorder.specs.Limits.{modulus};
 ghost use Rattle.capture_rules.specs.declared.arrival.Arrival.{Arrival};
 ghost use Rattle.capture_rules.specs.declared.arrival.HandedOn.{HandedOn};
 ghost use Rattle.capture_rules.specs.declared.held_time.HeldTime.{HeldTime};
 ghost use Rattle.capture_rules.specs.declared.arrival.Waiting.{Waiting};
-ghost use Rattle.capture_rules.specs.Order.{OrderView, nothing_waits, most_waiting, IsNext, HandsOnAll, Orders, arrivals_of, bursts_of};
+ghost use Rattle.capture_rules.specs.Order.{OrderView, nothing_waits, most_waiting, IsNext};
+ghost use Rattle.capture_rules.specs.Order.{HandsOnAll, Orders, arrivals_of, bursts_of};
 ghost use Rattle.capture_rules.specs.Turns.{CameNearlyInOrder, FewWait, InTurn};
 ghost use Rattle.capture_rules.specs.Begin.{IsFirstNumber};
 ghost use Rattle.capture_rules.specs.Held.{IsSkip};

@@ -1,5 +1,6 @@
 //! Queues from which something is taken at a place.
-ghost use Rattle.std.specs.Prelude.{◌≡◌, ◌<◌, ◌↔◌, length, remove, slice_index_or, IsSome, IfSome, IfNone, OnSome};
+ghost use Rattle.std.specs.Prelude.{◌≡◌, ◌<◌, ◌↔◌, length, remove, slice_index_or, IsSome, IfSome};
+ghost use Rattle.std.specs.Prelude.{IfNone, OnSome};
 
 use std::collections::VecDeque;
 

@@ -1,5 +1,6 @@
 //! The numbers of the bursts that wait, of each channel in order.
-ghost use Rattle.std.specs.Prelude.{◌≡◌, ◌≢◌, ◌<◌, ◌∷◌, ℕ, All, IfSome, IfNone, OnOk, OnErr, IsPermutation, [], length, is_some, nat_lt, get_or};
+ghost use Rattle.std.specs.Prelude.{◌≡◌, ◌≢◌, ◌<◌, ◌∷◌, ℕ, All, IfSome, IfNone, OnOk, OnErr};
+ghost use Rattle.std.specs.Prelude.{IsPermutation, [], length, is_some, nat_lt, get_or};
 ghost use Rattle.std.specs.List.Sorted.{IsNonDecreasing};
 ghost use Rattle.capture_rules.specs.Inside.Round.{ComesFirst};
 

@@ -1,6 +1,7 @@
 //! What was counted of one flow.
 ghost use Rattle.std.specs.Prelude.{◌≡◌};
-ghost use Rattle.capture_summary.specs.Counting.{new_flow, with_frame, with_request, with_restart, is_quiet};
+ghost use Rattle.capture_summary.specs.Counting.{new_flow, with_frame, with_request, with_restart};
+ghost use Rattle.capture_summary.specs.Counting.{is_quiet};
 
 use crate::sequence::FrameSequence;
 use flow_core::FlowCounts;

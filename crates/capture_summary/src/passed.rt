@@ -1,6 +1,7 @@
 //! What was passed over of a capture.
 ghost use Rattle.std.specs.Prelude.{◌≡◌};
-ghost use Rattle.capture_summary.specs.Counting.{one_more, none_passed, count_of_reason, with_passed};
+ghost use Rattle.capture_summary.specs.Counting.{one_more, none_passed, count_of_reason};
+ghost use Rattle.capture_summary.specs.Counting.{with_passed};
 ghost use Rattle.capture_summary.specs.Words.{reason_text};
 
 use capture::Passed;

@@ -4,7 +4,10 @@ ghost use Rattle.text_lines.specs.Putting.{Puts, numbered_texts};
 ghost use Rattle.capture_summary.specs.ReplayLines.{flow_line};
 ghost use Rattle.lane.specs.Report.{refusal_number};
 ghost use Rattle.capture_summary.specs.Counting.{count_of_refusal, count_of_reason};
-ghost use Rattle.capture_summary.specs.Report.{joined_line, flow_lines, counted_refusal, refused_text, admitted_text, lane_line, bursts_line, channel_lines, passed_line, records_line, clock_line, report_text};
+ghost use Rattle.capture_summary.specs.Report.{joined_line, flow_lines, counted_refusal};
+ghost use Rattle.capture_summary.specs.Report.{refused_text, admitted_text, lane_line, bursts_line};
+ghost use Rattle.capture_summary.specs.Report.{channel_lines, passed_line, records_line};
+ghost use Rattle.capture_summary.specs.Report.{clock_line, report_text};
 
 use crate::channel_summary::ChannelSummary;
 use crate::flow_summary::FlowSummary;

@@ -1,7 +1,9 @@
 //! The frame check sequence in a frame.
 ghost use Rattle.std.specs.Prelude.{◌≡◌, take, drop, option_map};
 ghost use Rattle.capture_summary.specs.Elements.{front_element};
-ghost use Rattle.capture_summary.specs.Sequence.{is_encrypted, says_encrypted, ends_with_its_sequence, extended_length, sequence_in, sequence_of};
+ghost use Rattle.capture_summary.specs.Sequence.{is_encrypted, says_encrypted};
+ghost use Rattle.capture_summary.specs.Sequence.{ends_with_its_sequence, extended_length};
+ghost use Rattle.capture_summary.specs.Sequence.{sequence_in, sequence_of};
 ghost use Rattle.capture_summary.specs.Seen.{element_parts};
 
 use docsis_wire::frame_check_sequence;

@@ -1,8 +1,13 @@
 //! What people read of a capture in the end.
 ghost use Rattle.std.specs.Prelude.{◌≡◌, flat_map, count_by};
 ghost use Rattle.text_lines.specs.Putting.{Puts};
-ghost use Rattle.capture_summary.specs.Counting.{is_selected_quiet, count_of_refusal, count_of_reason};
-ghost use Rattle.capture_summary.specs.SummaryText.{segments_line, frames_line, requests_line, flow_text, counted_line, refusal_line, channel_line, channel_text, all_records_line, set_back_told, crowded_told, times_told, reason_line, summary_text};
+ghost use Rattle.capture_summary.specs.Counting.{is_selected_quiet, count_of_refusal};
+ghost use Rattle.capture_summary.specs.Counting.{count_of_reason};
+ghost use Rattle.capture_summary.specs.SummaryText.{segments_line, frames_line, requests_line};
+ghost use Rattle.capture_summary.specs.SummaryText.{flow_text, counted_line, refusal_line};
+ghost use Rattle.capture_summary.specs.SummaryText.{channel_line, channel_text, all_records_line};
+ghost use Rattle.capture_summary.specs.SummaryText.{set_back_told, crowded_told, times_told};
+ghost use Rattle.capture_summary.specs.SummaryText.{reason_line, summary_text};
 
 use crate::channel_summary::ChannelSummary;
 use crate::flow_summary::FlowSummary;
@@ -182,7 +187,8 @@ fn put_crowded<O: PutText>(out: &mut O, count: u64)
 {
     put_counted_line(
         out,
-        "  bursts handed on early, as 2048 of their flow waited (times stand still, or --reorder is long):",
+        "  bursts handed on early, as 2048 of their flow waited \
+         (times stand still, or --reorder is long):",
         count,
     );
 }

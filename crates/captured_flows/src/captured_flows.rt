@@ -1,5 +1,6 @@
 //! The bursts of a capture with a map, handed in to a receiver.
-ghost use Rattle.std.specs.Prelude.{◌≡◌, ◌↔◌, ◌≤◌, [], ℕ, Bool, List, true, Some, None, IfSome, IfOk, IfErr, OnErr, map, length, slice_get};
+ghost use Rattle.std.specs.Prelude.{◌≡◌, ◌↔◌, ◌≤◌, [], ℕ, Bool, List, true, Some, None, IfSome};
+ghost use Rattle.std.specs.Prelude.{IfOk, IfErr, OnErr, map, length, slice_get};
 ghost use Rattle.selected_receiver.specs.Whole.{IsReceivingWhole, IsAtHand};
 ghost use Rattle.captured_flows.specs.Taking.{TakesBy, BreaksOff};
 ghost use Rattle.captured_flows.specs.Sound.{IsUnsound};
@@ -146,7 +147,8 @@ pub struct CapturedFlows<C> {
 }
 
 impl<C: HeaderCheck + Drop> CapturedFlows<C> {
-    ghost use Rattle.captured_flows.specs.Capturing.{IsCapturing, SpellsNext, SpellsAll, EndsWaitingOfAll, views_in, clock_counts_in};
+    ghost use Rattle.captured_flows.specs.Capturing.{IsCapturing, SpellsNext, SpellsAll};
+    ghost use Rattle.captured_flows.specs.Capturing.{EndsWaitingOfAll, views_in, clock_counts_in};
     ghost use Rattle.captured_flows.specs.Captures.{made_from, IsFaultOf};
     ghost use Rattle.captured_flows.specs.Sids.{flow_in_map};
     ghost use Rattle.flow_records.specs.declared.record.FlowRecord.{FlowRecord};

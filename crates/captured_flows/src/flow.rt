@@ -1,9 +1,12 @@
 //! What becomes of the bursts of one flow.
-ghost use Rattle.std.specs.Prelude.{◌≡◌, ◌++◌, ◌∷◌, [], List, IfOk, OnOk, OnErr, true, false, option_to_list};
+ghost use Rattle.std.specs.Prelude.{◌≡◌, ◌++◌, ◌∷◌, [], List, IfOk, OnOk, OnErr, true, false};
+ghost use Rattle.std.specs.Prelude.{option_to_list};
 ghost use Rattle.capture_rules.specs.Begin.{beginning_seen};
 ghost use Rattle.capture_rules.specs.Held.{held_by, wait_of};
-ghost use Rattle.captured_flows.specs.Flow.{Skips, LetsGo, HandsIn, HandsInAll, Begins, BeginsIf, LetsGoIf, HandsInIf, says_kept};
-ghost use Rattle.captured_flows.specs.Flow.{IsHandedOn, AreHandedOn, PassesOn, Comes, EndsWaiting, flow_begun};
+ghost use Rattle.captured_flows.specs.Flow.{Skips, LetsGo, HandsIn, HandsInAll, Begins, BeginsIf};
+ghost use Rattle.captured_flows.specs.Flow.{LetsGoIf, HandsInIf, says_kept};
+ghost use Rattle.captured_flows.specs.Flow.{IsHandedOn, AreHandedOn, PassesOn, Comes, EndsWaiting};
+ghost use Rattle.captured_flows.specs.Flow.{flow_begun};
 ghost use Rattle.selected_receiver.specs.Whole.{IsReceivingWhole, IsAtHand};
 ghost use Rattle.captured_flows.specs.Taking.{TakesBy, BreaksOff};
 ghost use Rattle.captured_flows.specs.Shown.{begun_if};

@@ -1,7 +1,9 @@
 //! The channel of an upstream channel id, and the flow of each service identifier of a channel.
-ghost use Rattle.std.specs.Prelude.{◌≡◌, ◌≤◌, ◌<◌, ◌⊎◌, ◌++◌, ◌∷◌, [], ℕ, List, None, IfOk, MatchOption, length, slice_index_or};
+ghost use Rattle.std.specs.Prelude.{◌≡◌, ◌≤◌, ◌<◌, ◌⊎◌, ◌++◌, ◌∷◌, [], ℕ, List, None, IfOk};
+ghost use Rattle.std.specs.Prelude.{MatchOption, length, slice_index_or};
 ghost use Rattle.capture_map.specs.declared.map.MapSid.{MapSid};
-ghost use Rattle.captured_flows.specs.Sids.{channel_of, flow_of, place_of, IsTableOf, most_channels, most_sids};
+ghost use Rattle.captured_flows.specs.Sids.{channel_of, flow_of, place_of, IsTableOf};
+ghost use Rattle.captured_flows.specs.Sids.{most_channels, most_sids};
 
 use capture_map::{MapChannel, MapSid};
 use lane::{MOST_CHANNELS, SIDS};

@@ -1,5 +1,6 @@
 //! What is at the front of some bytes, and the frames that follow one another from there.
-ghost use Rattle.std.specs.Prelude.{◌≡◌, ◌+◌, ◌≤◌, ◌↔◌, ℕ, Bool, true, false, List, [], length, take, IfOk, IsTrue};
+ghost use Rattle.std.specs.Prelude.{◌≡◌, ◌+◌, ◌≤◌, ◌↔◌, ℕ, Bool, true, false, List, [], length};
+ghost use Rattle.std.specs.Prelude.{take, IfOk, IsTrue};
 ghost use Rattle.std.specs.List.{concat};
 ghost use Rattle.docsis_wire.specs.Frame.{IsFrame};
 ghost use Rattle.ccf.specs.Inside.Front.{IsFrontOf};

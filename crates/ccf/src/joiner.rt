@@ -1,5 +1,6 @@
 //! Joining segments into frames, one segment at a time.
-ghost use Rattle.std.specs.Prelude.{◌≡◌, ◌≢◌, ◌+◌, ◌≤◌, ◌↔◌, ℕ, Bool, true, false, List, [], length, vec_len, IsTrue, IfOk, OnErr};
+ghost use Rattle.std.specs.Prelude.{◌≡◌, ◌≢◌, ◌+◌, ◌≤◌, ◌↔◌, ℕ, Bool, true, false, List, []};
+ghost use Rattle.std.specs.Prelude.{length, vec_len, IsTrue, IfOk, OnErr};
 ghost use Rattle.std.specs.List.{concat};
 ghost use Rattle.docsis_wire.specs.Frame.{IsFrame};
 ghost use Rattle.docsis_wire.specs.Ready.{IsReady};

@@ -1,5 +1,6 @@
 //! The bytes that are unfinished, and the room for them.
-ghost use Rattle.std.specs.Prelude.{◌≡◌, ◌≢◌, ◌+◌, ◌≤◌, ◌*◌, ℕ, [], length, min, max, vec_len, vec_capacity, IfOk, OnOk, OnErr};
+ghost use Rattle.std.specs.Prelude.{◌≡◌, ◌≢◌, ◌+◌, ◌≤◌, ◌*◌, ℕ, [], length, min, max, vec_len};
+ghost use Rattle.std.specs.Prelude.{vec_capacity, IfOk, OnOk, OnErr};
 ghost use Rattle.docsis_wire.specs.Head.{head_of};
 ghost use Rattle.ccf.specs.Inside.Rooms.{announced_by, Appends, EndsFrame, FreesAll};
 

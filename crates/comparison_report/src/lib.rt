@@ -7,7 +7,9 @@
 
 ghost use Rattle.std.specs.Prelude.{◌≡◌, flat_map};
 ghost use Rattle.text_lines.specs.Putting.{Puts, numbered_texts};
-ghost use Rattle.comparison_report.specs.ReportLines.{flow_line, hex_field, only_fields, here_line, burst_field, reason_fields, missing_line, whole_word, comparison_line, report_text};
+ghost use Rattle.comparison_report.specs.ReportLines.{flow_line, hex_field, only_fields, here_line};
+ghost use Rattle.comparison_report.specs.ReportLines.{burst_field, reason_fields, missing_line};
+ghost use Rattle.comparison_report.specs.ReportLines.{whole_word, comparison_line, report_text};
 
 use burst_fates::MissingReason;
 use frame_comparison::{ComparedCounts, FrameComparison, LonelyFrame, Side, reason_at};

@@ -30,10 +30,12 @@ pub struct Refused(pub Vec<u8>);
 
 #[tactic(auto, using(crate::proofs::Sending::sending))]
 impl Feeder {
-    ghost use Rattle.std.specs.Prelude.{◌≡◌, ◌<◌, ◌↔◌, [], ◌∷◌, ◌++◌, length, IsTrue, IsOk, OnOk, OnErr, IfOk, IfErr};
+    ghost use Rattle.std.specs.Prelude.{◌≡◌, ◌<◌, ◌↔◌, [], ◌∷◌, ◌++◌, length, IsTrue, IsOk, OnOk};
+    ghost use Rattle.std.specs.Prelude.{OnErr, IfOk, IfErr};
     ghost use Rattle.delivery.specs.Frames.{frames_in};
     ghost use Rattle.delivery.specs.Feeders.{feeder_ring, offered, backlog, room};
-    ghost use Rattle.delivery.specs.Feeders.{closed_ring, closed_offered, IsPlaced, IsUnchanged, IsFlushed};
+    ghost use Rattle.delivery.specs.Feeders.{closed_ring, closed_offered, IsPlaced, IsUnchanged};
+    ghost use Rattle.delivery.specs.Feeders.{IsFlushed};
 
     /// Offers a frame, after all that were offered before. It goes into the ring where the backlog
     /// is empty and the ring has room, and to the end of the backlog otherwise.

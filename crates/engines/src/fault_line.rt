@@ -4,7 +4,8 @@ ghost use Rattle.std.specs.Io.KnownBytes.{Appends};
 ghost use Rattle.std.specs.Fmt.{decimal};
 ghost use Rattle.engines.specs.Device.{inner_of, has_failed, is_flushed};
 ghost use Rattle.engines.specs.Transfer.{AppendsFront};
-ghost use Rattle.engines.specs.Fault.{pcap_text, pcapng_text, capture_text, cut_fault_text, fault_text, fault_line};
+ghost use Rattle.engines.specs.Fault.{pcap_text, pcapng_text, capture_text, cut_fault_text};
+ghost use Rattle.engines.specs.Fault.{fault_text, fault_line};
 
 use crate::device::Device;
 use crate::fault::{EngineFault, WriteFault};

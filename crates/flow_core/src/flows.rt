@@ -23,7 +23,8 @@ pub struct Core<C> {
 }
 
 impl<C: HeaderCheck + Drop> Core<C> {
-    ghost use Rattle.std.specs.Prelude.{◌≡◌, ◌<◌, ◌↔◌, ℕ, length, IsTrue, IfOk, IsOk, OnErr, Ok, Err};
+    ghost use Rattle.std.specs.Prelude.{◌≡◌, ◌<◌, ◌↔◌, ℕ, length, IsTrue, IfOk, IsOk, OnErr, Ok};
+    ghost use Rattle.std.specs.Prelude.{Err};
     ghost use Rattle.docsis_wire.specs.Limits.{sequence_modulus};
     ghost use Rattle.flow_records.specs.Setup.{IsSetupFault, CanBeSetUp};
     ghost use Rattle.flow_core.specs.Flows.{event_of, IsNewCore, HasFlow};

@@ -2,7 +2,8 @@
 //! and the delivery sequence only grows.
 //!
 //! Each function states a law in its contract; its body is empty or only calls other laws.
-ghost use Rattle.std.specs.Prelude.{◌≡◌, ◌↔◌, ◌⊎◌, ◌+◌, ◌<◌, ◌≤◌, ℕ, Bool, false, Option, List, IsTrue, [], ◌∷◌, ◌++◌, length, count_by, replicate};
+ghost use Rattle.std.specs.Prelude.{◌≡◌, ◌↔◌, ◌⊎◌, ◌+◌, ◌<◌, ◌≤◌, ℕ, Bool, false, Option, List};
+ghost use Rattle.std.specs.Prelude.{IsTrue, [], ◌∷◌, ◌++◌, length, count_by, replicate};
 ghost use Rattle.std.specs.List.{AllByRecursion};
 ghost use Rattle.docsis_wire.specs.declared.segment.Segment.{Segment};
 ghost use Rattle.docsis_wire.specs.Frame.{IsFrame};
@@ -15,14 +16,17 @@ ghost use Rattle.flow_records.specs.declared.record.FlowRecord.{FlowRecord};
 ghost use Rattle.flow_core.specs.declared.flow.Flow.{Flow};
 ghost use Rattle.flow_core.specs.declared.counts.FlowCounts.{FlowCounts};
 ghost use Rattle.flow_core.specs.declared.event.Applied.{Applied};
-ghost use Rattle.flow_core.specs.Fates.{Fates, no_fates, number_of, IsKept, IsKeptAs, IsLost, IsOpen, IsExpected, HasLaterKept, IsSettledBelow};
-ghost use Rattle.flow_core.specs.Events.{FlowEvent, gap, IsAhead, Declares, DeclaresTo, SkipsTo, Leads, IsAfter};
+ghost use Rattle.flow_core.specs.Fates.{Fates, no_fates, number_of, IsKept, IsKeptAs, IsLost};
+ghost use Rattle.flow_core.specs.Fates.{IsOpen, IsExpected, HasLaterKept, IsSettledBelow};
+ghost use Rattle.flow_core.specs.Events.{FlowEvent, gap, IsAhead, Declares, DeclaresTo, SkipsTo};
+ghost use Rattle.flow_core.specs.Events.{Leads, IsAfter};
 ghost use Rattle.flow_core.specs.Near.{AreNear, AreOfCut, AreSkipsWithin};
 ghost use Rattle.flow_core.specs.Delivery.{IsDelivered, IsDeliverySequence};
 ghost use Rattle.flow_core.specs.Stands.{StandsFor, IsDrained};
 ghost use Rattle.flow_core.specs.Outcome.{IsFlowOutcome};
 ghost use Rattle.flow_core.specs.Counts.{no_counts};
-ghost use Rattle.flow_core.specs.Closing.{IsClosed, Closes, says_lost, IsAllKept, HaveNoArrival, HaveNoSkip, IsSkippedBy};
+ghost use Rattle.flow_core.specs.Closing.{IsClosed, Closes, says_lost, IsAllKept, HaveNoArrival};
+ghost use Rattle.flow_core.specs.Closing.{HaveNoSkip, IsSkippedBy};
 ghost use Rattle.flow_core.specs.Flows.{IsLoss};
 ghost use Rattle.reorder.specs.declared.verdict.Declared.{Declared};
 

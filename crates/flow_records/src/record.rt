@@ -1,5 +1,6 @@
 //! What is known of each service flow before it runs.
-ghost use Rattle.std.specs.Prelude.{◌≡◌, ◌≢◌, ◌<◌, ◌≤◌, ◌↔◌, ℕ, IsTrue, MatchOption, Ok, Err, IfOk, length};
+ghost use Rattle.std.specs.Prelude.{◌≡◌, ◌≢◌, ◌<◌, ◌≤◌, ◌↔◌, ℕ, IsTrue, MatchOption, Ok, Err, IfOk};
+ghost use Rattle.std.specs.Prelude.{length};
 ghost use Rattle.flow_records.specs.Setup.{IsInRange, IsBad, IsRepeated, IsLeast};
 ghost use Rattle.flow_records.specs.Setup.{IsSetupFault, IsSetupFaultWithin};
 ghost use Rattle.flow_records.specs.Setup.{CanBeSetUp, CanBeSetUpWithin};

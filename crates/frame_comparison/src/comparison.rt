@@ -1,8 +1,10 @@
 //! The frames of two sides, set beside each other as they come.
 ghost use Rattle.std.specs.Prelude.{◌≡◌, ◌<◌, IfOk, OnOk, OnErr, IsTrue, IsFalse, length};
 ghost use Rattle.frame_comparison.specs.Frames.{came};
-ghost use Rattle.frame_comparison.specs.Compared.{Comparison, ended, with_frame, nothing_came, finished};
-ghost use Rattle.frame_comparison.specs.Seen.{ComparisonSeen, seen_of, seen_after, moved_in, waiting_of, listed_of, have_none_alone, failed};
+ghost use Rattle.frame_comparison.specs.Compared.{Comparison, ended, with_frame, nothing_came};
+ghost use Rattle.frame_comparison.specs.Compared.{finished};
+ghost use Rattle.frame_comparison.specs.Seen.{ComparisonSeen, seen_of, seen_after, moved_in};
+ghost use Rattle.frame_comparison.specs.Seen.{waiting_of, listed_of, have_none_alone, failed};
 
 use crate::coming_frame::ComingFrame;
 use crate::counts::ComparedCounts;

@@ -3,7 +3,8 @@
 ghost use Rattle.std.specs.Prelude.{◌≡◌, ◌<◌, ℕ, List};
 ghost use Rattle.frame_comparison.specs.declared.side.Side.TheVariants.{Analyser, Here};
 ghost use Rattle.frame_comparison.specs.Seen.{counts_of};
-ghost use Rattle.frame_comparison.specs.Aligned.{Arrival, AreAligned, FewWait, given_of, flow_then, flow_at_end, bytes_of};
+ghost use Rattle.frame_comparison.specs.Aligned.{Arrival, AreAligned, FewWait, given_of, flow_then};
+ghost use Rattle.frame_comparison.specs.Aligned.{flow_at_end, bytes_of};
 ghost use Rattle.frame_comparison.specs.InStep.{StayInStep, AreShort, NoneAlone};
 
 /// **The frames in both are the same frames of both sides, in one order.** What a side gave of a

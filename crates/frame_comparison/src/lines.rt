@@ -1,7 +1,9 @@
 //! What people read of a comparison.
 ghost use Rattle.std.specs.Prelude.{◌≡◌, flat_map, slice_get};
 ghost use Rattle.text_lines.specs.Putting.{Puts, numbered_texts};
-ghost use Rattle.frame_comparison.specs.ComparisonText.{sfid_text, counts_text, flow_line, lonely_text, here_line, told_reason, missing_line, whole_line, comparison_text};
+ghost use Rattle.frame_comparison.specs.ComparisonText.{sfid_text, counts_text, flow_line};
+ghost use Rattle.frame_comparison.specs.ComparisonText.{lonely_text, here_line, told_reason};
+ghost use Rattle.frame_comparison.specs.ComparisonText.{missing_line, whole_line, comparison_text};
 
 use crate::comparison::FrameComparison;
 use crate::counts::ComparedCounts;

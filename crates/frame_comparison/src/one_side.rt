@@ -1,8 +1,11 @@
 //! What is kept of one side: of each flow the frames that wait, and the first that only it has.
-ghost use Rattle.std.specs.Prelude.{◌≡◌, ◌<◌, ◌≤◌, ◌++◌, ℕ, Some, None, IfOk, OnOk, OnErr, [], drop, take, map, length, get_or, replicate};
+ghost use Rattle.std.specs.Prelude.{◌≡◌, ◌<◌, ◌≤◌, ◌++◌, ℕ, Some, None, IfOk, OnOk, OnErr, []};
+ghost use Rattle.std.specs.Prelude.{drop, take, map, length, get_or, replicate};
 ghost use Rattle.frame_comparison.specs.Frames.{shown_of, frames_given_up};
-ghost use Rattle.frame_comparison.specs.Compared.{place_of_equal, own_moved, other_moved, all_given_up};
-ghost use Rattle.frame_comparison.specs.Seen.{SideSeen, listed, listed_most, side_seen_after, none_waits};
+ghost use Rattle.frame_comparison.specs.Compared.{place_of_equal, own_moved, other_moved};
+ghost use Rattle.frame_comparison.specs.Compared.{all_given_up};
+ghost use Rattle.frame_comparison.specs.Seen.{SideSeen, listed, listed_most, side_seen_after};
+ghost use Rattle.frame_comparison.specs.Seen.{none_waits};
 
 use crate::coming_frame::ComingFrame;
 use crate::lonely_frame::{ListedFrames, LonelyFrame};

@@ -1,7 +1,8 @@
 //! What a frame that comes settles of its flow.
 ghost use Rattle.std.specs.Prelude.{◌≡◌, ◌<◌, IfOk, OnOk, OnErr, length};
 ghost use Rattle.frame_comparison.specs.Frames.{frames_in_both, frames_given_up};
-ghost use Rattle.frame_comparison.specs.Seen.{side_seen_after, settled_counts, moved_in, own_moved_in, other_moved_in};
+ghost use Rattle.frame_comparison.specs.Seen.{side_seen_after, settled_counts, moved_in};
+ghost use Rattle.frame_comparison.specs.Seen.{own_moved_in, other_moved_in};
 
 use crate::coming_frame::ComingFrame;
 use crate::counts::ComparedCounts;

@@ -20,7 +20,8 @@ pub struct Reasons {
 
 impl Reasons {
     ghost use Rattle.std.specs.Prelude.{[], IfOk};
-    ghost use Rattle.frame_reasons.specs.Told.{fate_of_taken, told_if, told_in_step, told_in_steps, TellsAll, explained};
+    ghost use Rattle.frame_reasons.specs.Told.{fate_of_taken, told_if, told_in_step, told_in_steps};
+    ghost use Rattle.frame_reasons.specs.Told.{TellsAll, explained};
 
     /// Nothing was told, and none is listed.
     pub fn new(alloc: Global) -> Result<Reasons, AllocError>

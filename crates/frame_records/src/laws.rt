@@ -1,5 +1,6 @@
 //! What follows from the definitions alone.
-ghost use Rattle.std.specs.Prelude.{◌≡◌, ◌≤◌, ◌<◌, ◌^◌, ℕ, List, [], ◌∷◌, Some, None, IfSome, length};
+ghost use Rattle.std.specs.Prelude.{◌≡◌, ◌≤◌, ◌<◌, ◌^◌, ℕ, List, [], ◌∷◌, Some, None, IfSome};
+ghost use Rattle.std.specs.Prelude.{length};
 ghost use Rattle.std.specs.Option.{option_to_list};
 ghost use Rattle.capture.specs.Captures.{captured_record};
 ghost use Rattle.capture.specs.Fields.{Field, fields_bytes, last_value};
@@ -9,8 +10,10 @@ ghost use Rattle.capture.specs.PcapngBlocks.{CaptureParts};
 ghost use Rattle.frame_records.specs.declared.link.FrameLink.{FrameLink};
 ghost use Rattle.frame_records.specs.declared.link.FrameLink.TheVariants.{Xra};
 ghost use Rattle.frame_records.specs.declared.origin.FrameOrigin.{FrameOrigin};
-ghost use Rattle.frame_records.specs.Frames.{file_header, frame_record, longest_frame, short_bytes, origin_fields};
-ghost use Rattle.frame_records.specs.Recorded.{FrameParts, HoldsPacket, HoldsFrame, written_frame, written_packet};
+ghost use Rattle.frame_records.specs.Frames.{file_header, frame_record, longest_frame, short_bytes};
+ghost use Rattle.frame_records.specs.Frames.{origin_fields};
+ghost use Rattle.frame_records.specs.Recorded.{FrameParts, HoldsPacket, HoldsFrame, written_frame};
+ghost use Rattle.frame_records.specs.Recorded.{written_packet};
 ghost use Rattle.frame_records.specs.BurstIds.{AreBurstIds, IsFirstId};
 ghost use Rattle.capture.specs.Packet.{two_bytes};
 

@@ -23,7 +23,8 @@ pub struct BurstIds<'a> {
 }
 
 ghost use Rattle.frame_records.specs.Recorded.{HoldsPacket};
-ghost use Rattle.frame_records.specs.BurstIds.{NamesBurst, IsFirstId, GivesId, AreBurstIds, AreFirstBursts, most_bursts};
+ghost use Rattle.frame_records.specs.BurstIds.{NamesBurst, IsFirstId, GivesId, AreBurstIds};
+ghost use Rattle.frame_records.specs.BurstIds.{AreFirstBursts, most_bursts};
 
 /// The bursts that the packet in a record names. It names none where the record doesn't hold the
 /// whole of a packet of link type 273.

@@ -1,7 +1,8 @@
 //! Where a frame came from.
 ghost use Rattle.std.specs.Prelude.{◌≡◌, ◌++◌, ◌∷◌, OnOk, IfOk, length};
 ghost use Rattle.capture.specs.Fields.{fields_bytes};
-ghost use Rattle.frame_records.specs.Frames.{short_bytes, address_fields, burst_field, origin_fields};
+ghost use Rattle.frame_records.specs.Frames.{short_bytes, address_fields, burst_field};
+ghost use Rattle.frame_records.specs.Frames.{origin_fields};
 
 use std::alloc::{AllocError, Global};
 

@@ -25,7 +25,8 @@ pub struct RecordedFrame<'a> {
 ghost use Rattle.capture.specs.Fields.{Field, fields_bytes};
 ghost use Rattle.capture.specs.Packet.{Parts, IsPacket};
 ghost use Rattle.capture.specs.SeenCapture.{capture_parts};
-ghost use Rattle.frame_records.specs.Recorded.{FrameParts, HoldsFrame, frame_parts, recorded_of, number_at};
+ghost use Rattle.frame_records.specs.Recorded.{FrameParts, HoldsFrame, frame_parts, recorded_of};
+ghost use Rattle.frame_records.specs.Recorded.{number_at};
 
 /// The frame that a record of a capture holds. `None` where its link type isn't 273, the capture
 /// kept fewer bytes than the packet had, the bytes spell no packet, its type isn't 80, or there is

@@ -1,12 +1,14 @@
 //! A lane: the grants and bursts of one channel.
-ghost use Rattle.std.specs.Prelude.{◌≡◌, ◌↔◌, ℕ, [], List, IsTrue, IsOk, IfOk, IfErr, OnErr, Ok, Err, length};
+ghost use Rattle.std.specs.Prelude.{◌≡◌, ◌↔◌, ℕ, [], List, IsTrue, IsOk, IfOk, IfErr, OnErr, Ok};
+ghost use Rattle.std.specs.Prelude.{Err, length};
 ghost use Rattle.std.specs.Prelude.{◌<◌, Some, slice_get};
 ghost use Rattle.lane.specs.declared.sids.SidRow.{SidRow};
 ghost use Rattle.lane.specs.declared.sids.LaneFault.{LaneFault};
 ghost use Rattle.lane.specs.Rows.{IsLaneFault, CanBeOpened, CanBeOpenedWithin, NamesNoFlow};
 ghost use Rattle.lane.specs.Inputs.{LaneSetup, AnsweredInput, IsGrantSize, is_burst};
 ghost use Rattle.lane.specs.Inputs.{outstanding_count};
-ghost use Rattle.lane.specs.Stands.{flow_at, HasFlows, StandsFor, TakesInput, StandsForTheSame, IsOutOfMemory, CouldTake};
+ghost use Rattle.lane.specs.Stands.{flow_at, HasFlows, StandsFor, TakesInput, StandsForTheSame};
+ghost use Rattle.lane.specs.Stands.{IsOutOfMemory, CouldTake};
 ghost use Rattle.lane.specs.Stands.{WouldAdmit, NamesAFlow};
 
 use crate::admitted::Admitted;

@@ -3,7 +3,8 @@
 //! It is what the rule knows in numbers. A segment is kept by its place, which goes on where
 //! numbers begin again; so a flow that comes past it drops it by an addition to its own place
 //! alone.
-ghost use Rattle.std.specs.Prelude.{◌≡◌, ◌<◌, ◌≤◌, ◌⊎◌, ℕ, IfOk, IfSome, MatchResult, IsTrue, None, Some, map, slice_set};
+ghost use Rattle.std.specs.Prelude.{◌≡◌, ◌<◌, ◌≤◌, ◌⊎◌, ℕ, IfOk, IfSome, MatchResult, IsTrue, None};
+ghost use Rattle.std.specs.Prelude.{Some, map, slice_set};
 ghost use Rattle.std.specs.Option.{ForSome};
 ghost use Rattle.docsis_wire.specs.Limits.{sequence_modulus};
 ghost use Rattle.reorder.specs.Number.{offset, number_ahead};

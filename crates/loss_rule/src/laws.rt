@@ -4,7 +4,8 @@
 //!
 //! Each function states a law in its contract; its body is empty or only calls other laws.
 ghost use Rattle.std.specs.Prelude.{◌≡◌, ◌≢◌, ◌↔◌, ◌⊎◌, ◌+◌, ◌*◌, ◌<◌, ◌≤◌, [], ◌∷◌, ◌++◌, ℕ};
-ghost use Rattle.std.specs.Prelude.{Bool, true, false, Some, List, map, length, replicate, slice_get};
+ghost use Rattle.std.specs.Prelude.{Bool, true, false, Some, List, map, length, replicate};
+ghost use Rattle.std.specs.Prelude.{slice_get};
 ghost use Rattle.docsis_wire.specs.declared.segment.Segment.{Segment};
 ghost use Rattle.docsis_wire.specs.Cut.{IsLawfulCut};
 ghost use Rattle.ccf.specs.Filter.{FiltersTo};
@@ -19,10 +20,15 @@ ghost use Rattle.flow_core.specs.Near.{AreNear};
 ghost use Rattle.flow_core.specs.Closing.{IsClosed};
 ghost use Rattle.flow_core.specs.Outcome.{IsFlowOutcome};
 ghost use Rattle.loss_rule.specs.declared.rule.LossRule.{LossRule};
-ghost use Rattle.loss_rule.specs.Rule.{Coming, on_channel, RuledFlow, HasChannel, Lasts, IsLastOn, IsPassed, HaveComeTo, Notes, IsPassing, IsSliding, AreSkips, IsRuled, Rules, AreRuled, own_event};
-ghost use Rattle.loss_rule.specs.InOrder.{Comes, AreInChannelOrder, ComeNear, ComeWithin, NeedNoSlide, FallIntoTheWindow, FitTheWindow};
-ghost use Rattle.loss_rule.specs.InOrder.{HaveShortOutages, SlideSafely, NeverComes, IsOvertaken, IsAllCome};
-ghost use Rattle.loss_rule.specs.InOrder.{HaveNoDecision, HandInDecisions, DecideSafely, DecideThePast};
+ghost use Rattle.loss_rule.specs.Rule.{Coming, on_channel, RuledFlow, HasChannel, Lasts, IsLastOn};
+ghost use Rattle.loss_rule.specs.Rule.{IsPassed, HaveComeTo, Notes, IsPassing, IsSliding, AreSkips};
+ghost use Rattle.loss_rule.specs.Rule.{IsRuled, Rules, AreRuled, own_event};
+ghost use Rattle.loss_rule.specs.InOrder.{Comes, AreInChannelOrder, ComeNear, ComeWithin};
+ghost use Rattle.loss_rule.specs.InOrder.{NeedNoSlide, FallIntoTheWindow, FitTheWindow};
+ghost use Rattle.loss_rule.specs.InOrder.{HaveShortOutages, SlideSafely, NeverComes, IsOvertaken};
+ghost use Rattle.loss_rule.specs.InOrder.{IsAllCome};
+ghost use Rattle.loss_rule.specs.InOrder.{HaveNoDecision, HandInDecisions, DecideSafely};
+ghost use Rattle.loss_rule.specs.InOrder.{DecideThePast};
 ghost use Rattle.loss_rule.specs.Dealing.{AreSpread, dealt, dealt_out, AreDealtOut, AreSpreadOut};
 ghost use Rattle.loss_rule.specs.Dealing.{RiseOverOutages, two_of_three, channel_of_three};
 

@@ -3,7 +3,9 @@ ghost use Rattle.std.specs.Prelude.{◌≡◌, ◌++◌, flat_map, codes};
 ghost use Rattle.text_lines.specs.Putting.{Puts};
 ghost use Rattle.registered_map.specs.Registered.{remarks_in};
 ghost use Rattle.registered_map.specs.Holding.{registered_in};
-ghost use Rattle.registered_map.specs.MapText.{telling_text, flow_lines, channel_lines, sid_lines, remark_words, remark_line, more_line, remarks_text, map_text};
+ghost use Rattle.registered_map.specs.MapText.{telling_text, flow_lines, channel_lines, sid_lines};
+ghost use Rattle.registered_map.specs.MapText.{remark_words, remark_line, more_line, remarks_text};
+ghost use Rattle.registered_map.specs.MapText.{map_text};
 
 use crate::registered_map::RegisteredMap;
 use crate::remarks::Remarks;

@@ -1,7 +1,11 @@
 //! The map that messages give, one after another.
-ghost use Rattle.std.specs.Prelude.{◌≡◌, ◌==◌, ◌+◌, ◌<◌, ◌≤◌, ℕ, None, OnOk, OnErr, length, fold, position, vec_len, vec_capacity, IsTrue};
-ghost use Rattle.registered_map.specs.Places.{most_channels, place_of_flow, place_of_channel, owner_of};
-ghost use Rattle.registered_map.specs.Registered.{nothing_registered, remarked, can_say, with_channel, with_row, given_to, added_at, with_action, with_told, with_message};
+ghost use Rattle.std.specs.Prelude.{◌≡◌, ◌==◌, ◌+◌, ◌<◌, ◌≤◌, ℕ, None, OnOk, OnErr, length, fold};
+ghost use Rattle.std.specs.Prelude.{position, vec_len, vec_capacity, IsTrue};
+ghost use Rattle.registered_map.specs.Places.{most_channels, place_of_flow, place_of_channel};
+ghost use Rattle.registered_map.specs.Places.{owner_of};
+ghost use Rattle.registered_map.specs.Registered.{nothing_registered, remarked, can_say};
+ghost use Rattle.registered_map.specs.Registered.{with_channel, with_row, given_to, added_at};
+ghost use Rattle.registered_map.specs.Registered.{with_action, with_told, with_message};
 ghost use Rattle.registered_map.specs.Holding.{registered_in, captured};
 ghost use Rattle.registered_map.specs.Inside.Room.{HasRoom};
 

@@ -1,5 +1,6 @@
 //! What follows from the definitions alone.
-ghost use Rattle.std.specs.Prelude.{◌≡◌, ◌↔◌, ◌≤◌, ◌<◌, ℕ, List, Some, Ok, length, map, flat_map, slice_index};
+ghost use Rattle.std.specs.Prelude.{◌≡◌, ◌↔◌, ◌≤◌, ◌<◌, ℕ, List, Some, Ok, length, map, flat_map};
+ghost use Rattle.std.specs.Prelude.{slice_index};
 ghost use Rattle.capture.specs.Fields.{Field, fields_bytes};
 ghost use Rattle.registrations.specs.Frames.{IsMessageFrame, IsManagement};
 ghost use Rattle.registrations.specs.Message.{ManagementParts, message_in, management_in};

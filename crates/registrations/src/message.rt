@@ -1,6 +1,7 @@
 //! MAC management messages, each in a frame of its own.
 ghost use Rattle.std.specs.Prelude.{◌≡◌, ◌≤◌, length};
-ghost use Rattle.registrations.specs.Message.{Gives, message_of, last_sequence, is_right, is_whole, message_in, management_in, management_seen};
+ghost use Rattle.registrations.specs.Message.{Gives, message_of, last_sequence, is_right, is_whole};
+ghost use Rattle.registrations.specs.Message.{message_in, management_in, management_seen};
 
 use byteorder::{BigEndian, ByteOrder, LittleEndian};
 use docsis_wire::{HeaderCheck, HeaderSequence, frame_check_sequence};

@@ -2,7 +2,8 @@
 ghost use Rattle.std.specs.Prelude.{◌≡◌, IfOk};
 ghost use Rattle.capture.specs.Packet.{Parts, packet_bytes, IsPacket};
 ghost use Rattle.registrations.specs.Message.{Gives, management_seen};
-ghost use Rattle.registrations.specs.Part.{part_in, response_in, change_in, numbered, part_of, part_seen, SpellsPart};
+ghost use Rattle.registrations.specs.Part.{part_in, response_in, change_in, numbered, part_of};
+ghost use Rattle.registrations.specs.Part.{part_seen, SpellsPart};
 
 use crate::message::{Management, NoPart, management_in, message_in};
 use capture::{Packet, read_packet};

@@ -3,7 +3,9 @@ ghost use Rattle.std.specs.Prelude.{◌≡◌, Option, List, OnOk, IfErr};
 ghost use Rattle.capture.specs.Fields.{Field};
 ghost use Rattle.capture.specs.Seen.{field};
 ghost use Rattle.registrations.specs.declared.told.Told.{Told};
-ghost use Rattle.registrations.specs.Told.{told_in, in_message, in_flow, in_cluster, sids_in, cluster_in, channel_in, action_of, flow_in, Refuses, IsTold};
+ghost use Rattle.registrations.specs.Told.{told_in, in_message, in_flow, in_cluster, sids_in};
+ghost use Rattle.registrations.specs.Told.{cluster_in, channel_in, action_of, flow_in, Refuses};
+ghost use Rattle.registrations.specs.Told.{IsTold};
 
 use crate::told::{Action, ChannelSid, Told, ToldFault, UpstreamFlow};
 use crate::values::{byte_at, long_at, long_if_there, word_at, word_if_there};

@@ -18,10 +18,13 @@ pub struct Unfinished {
 }
 
 impl Unfinished {
-    ghost use Rattle.std.specs.Prelude.{◌≡◌, ◌≢◌, ℕ, None, Err, option_map, OnOk, IfOk, IfErr, IsOk, IsTrue, IsFalse};
+    ghost use Rattle.std.specs.Prelude.{◌≡◌, ◌≢◌, ℕ, None, Err, option_map, OnOk, IfOk, IfErr};
+    ghost use Rattle.std.specs.Prelude.{IsOk, IsTrue, IsFalse};
     ghost use Rattle.registrations.specs.Part.{part_seen};
-    ghost use Rattle.registrations.specs.Joining.{most_under_way, open_seen, whole_seen, message_of, joined, IsHeldBefore};
-    ghost use Rattle.registrations.specs.UnderWay.{held_at, count_of, Joins, Refused, HasRoom, IsTakenOut};
+    ghost use Rattle.registrations.specs.Joining.{most_under_way, open_seen, whole_seen};
+    ghost use Rattle.registrations.specs.Joining.{message_of, joined, IsHeldBefore};
+    ghost use Rattle.registrations.specs.UnderWay.{held_at, count_of, Joins, Refused, HasRoom};
+    ghost use Rattle.registrations.specs.UnderWay.{IsTakenOut};
 
     /// Nothing is under way.
     pub fn new(alloc: Global) -> Unfinished

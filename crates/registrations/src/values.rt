@@ -1,6 +1,8 @@
 //! The values of TLVs that are numbers of one, two or four bytes.
 ghost use Rattle.std.specs.Prelude.{◌≡◌, option_map};
-ghost use Rattle.registrations.specs.Values.{value_if_there, value_at, byte_in, word_in, long_in, word_if_there, long_if_there, byte_at, word_at, long_at};
+ghost use Rattle.registrations.specs.Values.{value_if_there, value_at, byte_in, word_in, long_in};
+ghost use Rattle.registrations.specs.Values.{word_if_there, long_if_there, byte_at, word_at};
+ghost use Rattle.registrations.specs.Values.{long_at};
 ghost use Rattle.capture.specs.Seen.{value_seen};
 
 use capture::{are_tlvs, last_value};

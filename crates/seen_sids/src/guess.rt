@@ -1,6 +1,7 @@
 //! Which SIDs look like one flow: a guess.
 ghost use Rattle.std.specs.Prelude.{◌≡◌};
-ghost use Rattle.seen_sids.specs.Guess.{ahead, lies_within, some_within, is_one_of, have_one, look_like_one, twin_of};
+ghost use Rattle.seen_sids.specs.Guess.{ahead, lies_within, some_within, is_one_of, have_one};
+ghost use Rattle.seen_sids.specs.Guess.{look_like_one, twin_of};
 
 use crate::seen_sid::SeenSid;
 use docsis_wire::SEQUENCE_MODULUS;

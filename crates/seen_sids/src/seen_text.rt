@@ -2,7 +2,8 @@
 ghost use Rattle.std.specs.Prelude.{take};
 ghost use Rattle.text_lines.specs.Putting.{Puts};
 ghost use Rattle.seen_sids.specs.Seen.{seen_in};
-ghost use Rattle.seen_sids.specs.SeenText.{sid_text, numbers_text, twin_text, row_line, rows_text, others_line, seen_text};
+ghost use Rattle.seen_sids.specs.SeenText.{sid_text, numbers_text, twin_text, row_line, rows_text};
+ghost use Rattle.seen_sids.specs.SeenText.{others_line, seen_text};
 
 use crate::guess::twin_of;
 use crate::seen::SeenSids;

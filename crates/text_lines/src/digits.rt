@@ -1,6 +1,7 @@
 //! Hexadecimal digits, read in blocks ([`spell_block`]) and the last ones by a table: a branch for
 //! each digit would be guessed wrongly as often as digits and letters change.
-ghost use Rattle.std.specs.Prelude.{◌≡◌, ◌<◌, ◌≤◌, ◌*◌, ◌/◌, ◌%◌, ◌⊎◌, IsTrue, IsFalse, length, take, drop, vec_capacity};
+ghost use Rattle.std.specs.Prelude.{◌≡◌, ◌<◌, ◌≤◌, ◌*◌, ◌/◌, ◌%◌, ◌⊎◌, IsTrue, IsFalse, length};
+ghost use Rattle.std.specs.Prelude.{take, drop, vec_capacity};
 ghost use Rattle.std.specs.List.{list_all};
 ghost use Rattle.hex.specs.Hex.{is_hex_digit};
 ghost use Rattle.text_lines.specs.Inside.Digits.{IsDigitEntry, SpellsPairs, SpellsNothing};

@@ -1,5 +1,6 @@
 //! Hexadecimal fields.
-ghost use Rattle.std.specs.Prelude.{◌≡◌, ◌≢◌, ◌∷◌, [], ◌<◌, ◌-◌, ◌↔◌, ℕ, List, IsTrue, IfOk, IfErr, IfSome, MatchOption, length, take, drop, replicate};
+ghost use Rattle.std.specs.Prelude.{◌≡◌, ◌≢◌, ◌∷◌, [], ◌<◌, ◌-◌, ◌↔◌, ℕ, List, IsTrue, IfOk, IfErr};
+ghost use Rattle.std.specs.Prelude.{IfSome, MatchOption, length, take, drop, replicate};
 ghost use Rattle.text_lines.specs.Inside.LineFault.{IsLineFault};
 ghost use Rattle.text_lines.specs.Field.{SpellsBytes, IsHex};
 ghost use Rattle.text_lines.specs.Inside.LineFault.{HasHexFault};

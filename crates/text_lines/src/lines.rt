@@ -1,5 +1,6 @@
 //! The lines of an input, numbered from 1, and the one walk over them.
-ghost use Rattle.std.specs.Prelude.{◌≡◌, ℕ, ◌+◌, ◌-◌, ◌^◌, ◌<◌, ◌≤◌, min, List, [], ◌∷◌, ◌++◌, length, position, OnOk, IfOk, IfErr, MatchOption};
+ghost use Rattle.std.specs.Prelude.{◌≡◌, ℕ, ◌+◌, ◌-◌, ◌^◌, ◌<◌, ◌≤◌, min, List, [], ◌∷◌, ◌++◌};
+ghost use Rattle.std.specs.Prelude.{length, position, OnOk, IfOk, IfErr, MatchOption};
 ghost use Rattle.text_lines.specs.Inside.LineFault.{IsLineFault, IsFaultAt};
 ghost use Rattle.text_lines.specs.Inside.LineFeeds.{HasNoLineFeed, BeginsWithLine};
 ghost use Rattle.text_lines.specs.Format.{Format, IsRead, IsReadingFault};

@@ -1,5 +1,6 @@
 //! The words of a line, and its fields: the words of a line that is no comment.
-ghost use Rattle.std.specs.Prelude.{◌≡◌, ◌≢◌, ◌↔◌, ◌<◌, ◌∷◌, [], length, IsTrue, MatchOption, map, not, position};
+ghost use Rattle.std.specs.Prelude.{◌≡◌, ◌≢◌, ◌↔◌, ◌<◌, ◌∷◌, [], length, IsTrue, MatchOption, map};
+ghost use Rattle.std.specs.Prelude.{not, position};
 ghost use Rattle.std.specs.Simd.Lanes.{mask_l};
 ghost use Rattle.text_lines.specs.Lines.{words_of, fields_of, is_separator};
 

@@ -1,6 +1,7 @@
 //! The consumer that keeps times.
 ghost use Rattle.std.specs.Prelude.{◌≡◌, ◌<◌, ◌≤◌, [], ◌∷◌, ◌++◌, length, vec_capacity};
-ghost use Rattle.std.specs.Prelude.{Some, None, Option, MatchOption, IfSome, IfOk, IsTrue, slice_get};
+ghost use Rattle.std.specs.Prelude.{Some, None, Option, MatchOption, IfSome, IfOk, IsTrue};
+ghost use Rattle.std.specs.Prelude.{slice_get};
 ghost use Rattle.timed_frames.specs.declared.timed_step.TimedStep.{TimedStep};
 ghost use Rattle.timed_frames.specs.Seen.{HasSeenNothing, HasSeen, HasGiven, Keeps};
 

@@ -1,6 +1,7 @@
 //! The feeders of all flows, which the assembler of a running receiver drives.
 ghost use Rattle.std.specs.Prelude.{◌≡◌, ◌≤◌, false, [], length, map};
-ghost use Rattle.delivery.specs.Feeders.{feeder_ring, offered, backlog, closed_ring, closed_offered};
+ghost use Rattle.delivery.specs.Feeders.{feeder_ring, offered, backlog, closed_ring};
+ghost use Rattle.delivery.specs.Feeders.{closed_offered};
 
 use crate::signals::Signals;
 use crate::waiting::Waiting;

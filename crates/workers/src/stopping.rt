@@ -1,5 +1,6 @@
 //! Telling a running receiver to stop.
-ghost use Rattle.std.specs.Prelude.{◌≡◌, ◌++◌, ◌∷◌, ◌⊎◌, [], false, List, None, IsTrue, MatchOption};
+ghost use Rattle.std.specs.Prelude.{◌≡◌, ◌++◌, ◌∷◌, ◌⊎◌, [], false, List, None, IsTrue};
+ghost use Rattle.std.specs.Prelude.{MatchOption};
 ghost use Rattle.flow_records.specs.declared.decision.Decision.{Decision};
 ghost use Rattle.workers.specs.declared.channel_input.ChannelInput.{ChannelInput};
 

@@ -6,10 +6,13 @@ ghost use Rattle.flow_core.specs.Events.{FlowEvent, arrives, skip_to, gap};
 ghost use Rattle.loss_rule.specs.Rule.{Coming, Lasts, on_channel, handed_in};
 ghost use Rattle.loss_rule.specs.Numbers.{skips_to};
 ghost use Rattle.bonded_flows.specs.FlowSetup.{FlowSetup};
-ghost use Rattle.bonded_flows.specs.ByRule.{decision_event, IsTakable, IsTold, IsToldLost, EndInVerdict};
-ghost use Rattle.bonded_flows.specs.Stands.{HasCome, HasTaken, HasTakenSome, SlidesNext, IsUnderWay};
+ghost use Rattle.bonded_flows.specs.ByRule.{decision_event, IsTakable, IsTold, IsToldLost};
+ghost use Rattle.bonded_flows.specs.ByRule.{EndInVerdict};
+ghost use Rattle.bonded_flows.specs.Stands.{HasCome, HasTaken, HasTakenSome, SlidesNext};
+ghost use Rattle.bonded_flows.specs.Stands.{IsUnderWay};
 ghost use Rattle.bonded_flows.specs.Stands.{IsSettled, IsUpToDate};
-ghost use Rattle.bonded_flows.specs.Taking.{SkipsPassed, SkipsSlid, TakesDecision, TakesSliding, TakesArrival, Takes};
+ghost use Rattle.bonded_flows.specs.Taking.{SkipsPassed, SkipsSlid, TakesDecision, TakesSliding};
+ghost use Rattle.bonded_flows.specs.Taking.{TakesArrival, Takes};
 
 use super::BondedFlow;
 use crate::decision::FlowDecision;
