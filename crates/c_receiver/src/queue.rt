@@ -25,8 +25,7 @@ pub struct QueuedFrame {
 pub struct Queue {
     /// The frames of all flows.
     pub frames: VecDeque<QueuedFrame>,
-    /// The requests of all channels, as C sees them: a [`Request`] has seven bytes behind its
-    /// channel that mean nothing, and would be copied several times on their way here.
+    /// The requests of all channels, as C sees them.
     pub requests: VecDeque<PlainRequest>,
     /// Whether all that was given was kept.
     pub whole: bool,

@@ -6,8 +6,6 @@ use docsis_wire::Segment;
 /// A request for grants, from the header of a segment.
 #[derive(Clone, Copy, Debug, PartialEq, Eq)]
 pub struct Request {
-    /// The channel on which the segment came, 0 to 15.
-    pub channel: u8,
     /// The index of the flow's record.
     pub flow: usize,
     /// The SID cluster that the request is made for, 0 to 7 and below the flow's count of clusters.
@@ -16,6 +14,9 @@ pub struct Request {
     pub units: u16,
     /// The number of the segment in its flow, 0 to 8191.
     pub sequence: u16,
+    /// The channel on which the segment came, 0 to 15. It stands last, so that a request takes 16
+    /// bytes: before the index it would have seven of no meaning behind it.
+    pub channel: u8,
 }
 
 /// A segment of a flow that fits its grant, and the request in its header, if there is one.
