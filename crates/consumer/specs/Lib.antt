@@ -2,3 +2,4 @@ pub mod Given
 pub mod Counting
 pub mod Inside
 pub mod Collecting
+pub mod Listed

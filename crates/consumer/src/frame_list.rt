@@ -1,6 +1,8 @@
 //! Frames that are kept in order.
 ghost use Rattle.std.specs.Prelude.{◌≡◌, ◌≤◌, ◌↔◌, ◌++◌, ◌∷◌, [], ℕ, List, All, Some, None, length};
 ghost use Rattle.std.specs.Prelude.{IsTrue, IfSome, OnOk, OnErr, slice_get};
+ghost use Rattle.std.specs.Iterator.{YieldsFirstRef, item_count};
+ghost use Rattle.consumer.specs.Listed.{frames_left};
 
 use docsis_wire::Bytes;
 use std::alloc::{AllocError, Global};
@@ -43,13 +45,7 @@ impl Model for FrameList {
 
 impl fmt::Debug for FrameList {
     fn fmt<W: fmt::Write>(&self, f: &mut fmt::Formatter<W>) -> fmt::Result {
-        let mut list = f.debug_list();
-        for index in 0..self.len() {
-            if let Some(frame) = self.get(index) {
-                list.entry(&frame);
-            }
-        }
-        list.finish()
+        f.debug_list().entries(self.iter()).finish()
     }
 }
 
@@ -87,7 +83,28 @@ impl FrameList {
         }
     }
 
-    /// Adds a frame at the end. Where an allocation fails it is dropped.
+    /// The frames, in order.
+    pub fn iter(&self) -> Frames<'_>
+        ensures { frames_left result ≡ self.now.items }
+    {
+        Frames {
+            list: self,
+            next: 0,
+        }
+    }
+
+    /// Lets all frames go. The room for the bytes of short ones and for places is kept for others,
+    /// so that as many of the same lengths can be pushed again without more memory.
+    pub fn clear(&mut self)
+        ensures { self.new.items ≡ [] }
+    {
+        self.frames.clear();
+        // No frame stands there any more. Else they would only grow.
+        self.short.clear();
+    }
+
+    /// Adds a frame at the end. Where an allocation fails the frame is dropped, and the list is as
+    /// it was.
     pub fn push(&mut self, frame: Bytes) -> Result<(), AllocError>
         ensures pushed { OnOk result (self.new.items ≡ self.old.items ++ frame ∷ []) }
         ensures unchanged { OnErr result (self.new.items ≡ self.old.items) }
@@ -102,5 +119,43 @@ impl FrameList {
         let end = self.short.len();
         self.frames.push_reserved(Kept::Short { start, end });
         Ok(())
+    }
+}
+
+/// The frames of a list that are still to come, in order.
+#[derive(Clone, Debug, Drop)]
+pub struct Frames<'a> {
+    list: &'a FrameList,
+    next: usize,
+}
+
+impl<'a> Iterator for Frames<'a> {
+    type Item = &'a [u8];
+
+    ghost next_gives = { YieldsFirstRef frames_left };
+
+    ghost remaining = { item_count frames_left };
+
+    fn next(&mut self) -> Option<&'a [u8]> {
+        let frame = self.list.get(self.next)?;
+        self.next += 1;
+        Some(frame)
+    }
+
+    fn size_hint(&self) -> (usize, Option<usize>) {
+        let left = self.list.len().saturating_sub(self.next);
+        (left, Some(left))
+    }
+}
+
+impl<'a> IntoIterator for &'a FrameList {
+    type Item = &'a [u8];
+
+    type IntoIter = Frames<'a>;
+
+    ghost into_iter_gives = { λ list frames. frames_left frames ≡ list.now.items };
+
+    fn into_iter(self) -> Frames<'a> {
+        self.iter()
     }
 }

@@ -29,6 +29,6 @@ pub use collected::Collected;
 pub use consumer::Consumer;
 pub use counts::Counts;
 pub use forgets::Forgets;
-pub use frame_list::FrameList;
+pub use frame_list::{FrameList, Frames};
 pub use given::Given;
 pub use giving::{give_frames, give_request};

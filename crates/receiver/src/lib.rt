@@ -50,7 +50,7 @@ mod width;
 
 pub use bonded_flows::{DecideFault, FlowDecision, NotReady, SegmentVerdict, Told};
 pub use closing::{Closed, Closing};
-pub use consumer::FrameList;
+pub use consumer::{FrameList, Frames};
 pub use flow_records::Decision;
 pub use one_thread::{ReplayFault, admitted_order, replay, replay_by, replay_tags_by};
 pub use order::check_order;

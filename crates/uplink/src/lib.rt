@@ -34,7 +34,7 @@ mod receiving;
 mod tap;
 mod tapped;
 
-pub use consumer::{Collected, Consumer, Counts, Forgets, FrameList, Given};
+pub use consumer::{Collected, Consumer, Counts, Forgets, FrameList, Frames, Given};
 pub use eight_threads::{run, run_by};
 pub use faults::RunFault;
 pub use lane::{

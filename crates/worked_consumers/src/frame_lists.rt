@@ -40,6 +40,13 @@ fn expect_listed(rt: &impl Abort, frames: &FrameList, lengths: &[usize]) {
         assert!(rt; found.iter().all(|byte| *byte == place));
     }
     assert!(rt; frames.get(lengths.len()).is_none());
+    let mut count = 0;
+    for frame in frames {
+        assert!(rt; frames.get(count) == Some(frame));
+        count += 1;
+    }
+    assert!(rt; count == lengths.len());
+    assert!(rt; frames.iter().size_hint() == (count, Some(count)));
 }
 
 #[test]
@@ -50,6 +57,17 @@ fn frames_stay_in_order(rt: HostRuntime) -> Result<(), Fail> {
     let frames = listed(rt.alloc(), &LENGTHS)?;
     assert!(rt; !frames.is_empty());
     expect_listed(&rt, &frames, &LENGTHS);
+    Ok(())
+}
+
+#[test]
+fn list_is_filled_again(rt: HostRuntime) -> Result<(), Fail> {
+    let mut frames = listed(rt.alloc(), &LENGTHS)?;
+    frames.clear();
+    expect_listed(&rt, &frames, &[]);
+    frames.push(frame(rt.alloc(), 0, 5)?)?;
+    frames.push(frame(rt.alloc(), 1, 70)?)?;
+    expect_listed(&rt, &frames, &[5, 70]);
     Ok(())
 }
 

@@ -1,6 +1,7 @@
 //! Tests to be run with the Nth request for memory refused. Each says `refused` when a call was.
 use super::{LENGTHS, expect_listed, frame};
 use consumer::FrameList;
+use docsis_wire::Bytes;
 use std::alloc::Global;
 use std::process::Abort;
 use std::test::Fail;
@@ -33,5 +34,34 @@ fn frames_stay_where_memory_fails(rt: HostRuntime) -> Result<(), Fail> {
     let mut frames = FrameList::new(rt.alloc());
     push_again(&rt, rt.alloc(), &mut frames)?;
     expect_listed(&rt, &frames, &LENGTHS);
+    say_whether_refused(&rt, rt.alloc())
+}
+
+/// A frame, made once more where the first call was refused memory.
+fn made_frame(rt: &impl Print, alloc: Global, place: u8, len: usize) -> Result<Bytes, Fail> {
+    match frame(alloc, place, len) {
+        Ok(made) => Ok(made),
+        Err(_) => {
+            say_refused(rt)?;
+            Ok(frame(alloc, place, len)?)
+        }
+    }
+}
+
+#[test]
+fn cleared_list_takes_as_many_frames_without_memory_of_its_own(
+    rt: HostRuntime,
+) -> Result<(), Fail> {
+    let mut frames = FrameList::new(rt.alloc());
+    push_again(&rt, rt.alloc(), &mut frames)?;
+    for _ in 0..3 {
+        frames.clear();
+        for (place, len) in (0..).zip(LENGTHS) {
+            let made = made_frame(&rt, rt.alloc(), place, len)?;
+            // It asks for no memory, so none is refused here.
+            assert!(rt; frames.push(made).is_ok());
+        }
+        expect_listed(&rt, &frames, &LENGTHS);
+    }
     say_whether_refused(&rt, rt.alloc())
 }
