@@ -1,6 +1,6 @@
 -- Options that ask for a loss rule and for events at most: for which rule they ask, and whether for
 -- events.
-use Rattle.std.proofs.Common.{◌≡◌, ◌≢◌, ◌<◌, ◌≤◌, ◌-◌, ℕ, zero, suc, All, Bool, true, false, Option, Some, None, List, [], ◌∷◌, ◌++◌, length, get_or, take, drop, inl, inr, refl, ap, sym, ◌∙◌, subst, arith}
+use Rattle.std.proofs.Common.{◌≡◌, ◌≢◌, ◌≤◌, ◌-◌, ℕ, zero, suc, All, Bool, true, false, Option, Some, None, List, [], ◌∷◌, ◌++◌, length, get_or, take, drop, inl, inr, refl, ap, sym, ◌∙◌, subst, arith}
 use Rattle.std.specs.Prelude.{map, ◌↔◌}
 use Rattle.std.proofs.lemmas.Option.{same_Some}
 use Rattle.std.proofs.lemmas.List.{take_all, map-append}
@@ -9,7 +9,6 @@ use Rattle.loss_rule.specs.declared.rule.LossRule.{LossRule}
 use Rattle.command_line.specs.OptionWords.{IsOption}
 use Rattle.command_line.specs.Losses.{rule_name, losses_option, HasNoLossesWord, AskForRule, AskForRuleAlone}
 use Rattle.command_line.specs.Command.{events_option, AreWithEvents, AskToFollowAlone, HasWord, AskForEvents}
-use Rattle.command_line.proofs.AskedWords.{HasWord-none}
 use Rattle.command_line.proofs.AskedRules.{name_without_dash, no_losses_word, each_alone, AskForRule-alone, AskForRule-one}
 
 -- ---- the option for events is no other
@@ -189,15 +188,6 @@ split_last (one ∷ []) (suc n) last long is = absurd (omega (arith, long))
 split_last (one ∷ two ∷ more) zero last long is = absurd (omega (arith, long))
 split_last (one ∷ two ∷ more) (suc n) last long is = ap (λ xs. one ∷ xs) (split_last (two ∷ more) n last (omega (arith, long)) is)
 
-same_lasts : (rest others : List (List ℕ)) (word other : List ℕ) → rest ++ word ∷ [] ≡ others ++ other ∷ [] → word ≡ other
-same_lasts [] [] word other same = cc
-same_lasts [] (one ∷ []) word other same = absurd cc
-same_lasts [] (one ∷ two ∷ others) word other same = absurd cc
-same_lasts (one ∷ []) [] word other same = absurd cc
-same_lasts (one ∷ two ∷ rest) [] word other same = absurd cc
-same_lasts (one ∷ rest) (two ∷ others) word other same =
-    let are : rest ++ word ∷ [] ≡ others ++ other ∷ [] = cc in same_lasts rest others word other are
-
 module _ {X : Type 0} (text : X → List ℕ) (options : List X) (some : 1 ≤ length options) where
   -- options begin with the first one
   first_of : (first : X) → first ≡ get_or options 0 first → map text options ≡ text first ∷ map text (take (length options - 1) (drop 1 options))
@@ -214,24 +204,12 @@ module _ {X : Type 0} (text : X → List ℕ) (options : List X) (some : 1 ≤ l
 
   -- the option for events stands first
   pub events_first : (first : X) (shown : List ℕ) → first ≡ get_or options 0 first → shown ≡ text first → shown ≡ events_option
-      → AreWithEvents (map text options) (map text (take (length options - 1) (drop 1 options)))
+      → map text options ≡ events_option ∷ map text (take (length options - 1) (drop 1 options))
   events_first first shown at shows is =
-      inl (first_of first at ∙ ap (λ (word : List ℕ). word ∷ map text (take (length options - 1) (drop 1 options))) (sym shows ∙ is))
+      first_of first at ∙ ap (λ (word : List ℕ). word ∷ map text (take (length options - 1) (drop 1 options))) (sym shows ∙ is)
 
   -- or last
   pub events_last : (last : X) (shown : List ℕ) → last ≡ get_or options (length options - 1) last → shown ≡ text last → shown ≡ events_option
-      → AreWithEvents (map text options) (map text (take (length options - 1) options))
+      → map text options ≡ map text (take (length options - 1) options) ++ events_option ∷ []
   events_last last shown at shows is =
-      inr (last_of last at ∙ ap (λ (word : List ℕ). map text (take (length options - 1) options) ++ word ∷ []) (sym shows ∙ is))
-
-  -- or at neither end
-  pub events_nowhere : (first last : X) (shown other : List ℕ) → first ≡ get_or options 0 first → shown ≡ text first → shown ≢ events_option
-      → last ≡ get_or options (length options - 1) last → other ≡ text last → other ≢ events_option
-      → (rest : List (List ℕ)) → ¬ AreWithEvents (map text options) rest
-  events_nowhere first last shown other at shows unlike at_end shows_end none rest (inl is) =
-      unlike (shows ∙ (let same : text first ∷ map text (take (length options - 1) (drop 1 options)) ≡ events_option ∷ rest = sym (first_of first at) ∙ is in cc))
-  events_nowhere first last shown other at shows unlike at_end shows_end none rest (inr is) =
-      none (shows_end ∙ same_lasts (map text (take (length options - 1) options)) rest (text last) events_option (sym (last_of last at_end) ∙ is))
-
-pub events_in_none : {X : Type 0} (text : X → List ℕ) (options : List X) → length options < 1 → (rest : List (List ℕ)) → ¬ AreWithEvents (map text options) rest
-events_in_none text options few rest with = HasWord-none events_option text options few (has_events (map text options) rest with)
+      last_of last at ∙ ap (λ (word : List ℕ). map text (take (length options - 1) options) ++ word ∷ []) (sym shows ∙ is)

@@ -1,14 +1,13 @@
 -- The second word, the words behind it, and a word that asks for help.
-use Rattle.std.proofs.Common.{◌≡◌, ◌⊎◌, ℕ, zero, suc, ◌+◌, ◌-◌, ◌<◌, ◌≤◌, inl, inr, true, Option, Some, None, List, [], ◌∷◌, ◌++◌, length, get_or, slice_get, take, drop, refl, ap, sym, ◌∙◌, subst, arith}
+use Rattle.std.proofs.Common.{◌≡◌, ◌⊎◌, ℕ, zero, suc, ◌+◌, ◌-◌, ◌<◌, ◌≤◌, inl, inr, Some, List, [], ◌∷◌, ◌++◌, length, get_or, slice_get, take, drop, ap, sym, ◌∙◌, subst, arith}
 use Rattle.std.proofs.lemmas.Bool.{cases_lt}
 use Rattle.std.proofs.lemmas.List.{length-map, length-take, take_all}
 use Rattle.std.proofs.lemmas.Option.{same_Some, slice_get_within}
-use Rattle.std.specs.Prelude.{map, is_some, ◌↔◌}
-use Rattle.loss_rule.specs.declared.rule.LossRule.{LossRule}
+use Rattle.std.specs.Prelude.{map, ◌↔◌}
 use Rattle.command_line.specs.declared.command.Command.{Command}
 use Rattle.command_line.specs.declared.command.Command.TheVariants.{Join, Cut, Replay, Run, Follow, Map, Help}
 use Rattle.command_line.specs.Inside.Command.{AsksWithOptions}
-use Rattle.command_line.specs.Command.{IsCommandAlone, IsCommand, options_in, AsksToReplayBy, AsksForAnEngine, HasWord, IsHelpWord, HasNoHelpWord, StandsBeforeHelp}
+use Rattle.command_line.specs.Command.{IsCommandAlone, IsCommand, options_in, AsksForAnEngine, HasWord, IsHelpWord, HasNoHelpWord, StandsBeforeHelp}
 
 -- of two words the second is a command's alone
 pub IsCommandAlone-two : {X : Type 0} (command : List ℕ) (text : X → List ℕ) (words : List X) (word : X) → 2 ≤ length words → length words < 3 → word ≡ get_or words 1 word

@@ -1,8 +1,7 @@
 -- What the values of the options for flows say.
-use Rattle.std.proofs.Common.{◌≡◌, ◌≢◌, ◌<◌, ◌≤◌, ◌-◌, ◌+◌, inl, inr, ℕ, Option, Some, None, List, [], ◌∷◌, ◌++◌, length, get_or, refl, ap, sym, subst, ◌∙◌, append_assoc, append-nil, arith}
+use Rattle.std.proofs.Common.{◌≡◌, ◌≢◌, ◌<◌, ℕ, Option, Some, None, List, [], ◌∷◌, ◌++◌, length, get_or, sym, subst, ◌∙◌, append_assoc, arith}
 use Rattle.std.proofs.Common.{Bor}
 use Rattle.std.specs.Prelude.{codes, MatchOption}
-use Rattle.std.specs.Str.Parse.{digits_value}
 use Rattle.std.proofs.lemmas.Str.Parse.{digit_at}
 use Rattle.std.proofs.lemmas.Str.Pattern.{IsSplitOnceResult, split_after}
 use Rattle.flow_selection.specs.declared.range.FlowRange.{FlowRange}
@@ -15,8 +14,8 @@ no_byte_below : (field : List ℕ) (most number byte : ℕ) → IsNumber field m
 no_byte_below field most number byte is below i within same = let digit = digit_at field i is.digits.1 within in omega (arith, digit.0, same, below)
 
 -- a field is one number
-pub same_number : (text field : List ℕ) (most other_most number other : ℕ) → field ≡ text → IsNumber field most number → IsNumber text other_most other → number ≡ other
-same_number text field most other_most number other same is are = sym is.value ∙ ap (digits_value 10) same ∙ are.value
+pub same_number : (field : List ℕ) (most other_most number other : ℕ) → IsNumber field most number → IsNumber field other_most other → number ≡ other
+same_number field most other_most number other is are = sym is.value ∙ are.value
 
 -- a value that says a shard has a slash, and the numbers of the shard stand before it and behind it
 pub split_says : (value : List ℕ) (parts : Option (Bor (List ℕ) × Bor (List ℕ))) → IsSplitOnceResult 47 value parts → (shard : Shard) → SaysShard value shard

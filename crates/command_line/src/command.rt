@@ -1,6 +1,6 @@
 //! What the program's arguments ask for.
-ghost use Rattle.std.specs.Prelude.{◌≡◌, ◌<◌, ◌≤◌, ◌↔◌, ℕ, Bool, Some, List, map, codes, IsTrue};
-ghost use Rattle.std.specs.Prelude.{IfOk, MatchOption};
+ghost use Rattle.std.specs.Prelude.{◌≡◌, ◌≢◌, ◌<◌, ◌≤◌, ◌↔◌, ◌++◌, ◌∷◌, [], ℕ, Bool, Some, List};
+ghost use Rattle.std.specs.Prelude.{map, codes, IsTrue, IfOk, MatchOption};
 ghost use Rattle.loss_rule.specs.declared.rule.LossRule.{LossRule};
 ghost use Rattle.text_lines.specs.Capacities.{default_capacity};
 ghost use Rattle.command_line.specs.declared.command.UsageFault.TheVariants.{OutOfMemory};
@@ -8,7 +8,7 @@ ghost use Rattle.command_line.specs.Command.{IsCommandAlone, IsCommand, options_
 ghost use Rattle.command_line.specs.Command.{AsksToMap, AsksForAnEngine};
 ghost use Rattle.command_line.specs.Command.{AsksToReplayBy, AsksToRunByAlone};
 ghost use Rattle.command_line.specs.Losses.{AskForRule, AskForRuleAlone};
-ghost use Rattle.command_line.specs.Command.{AreWithEvents, AsksToFollowAlone};
+ghost use Rattle.command_line.specs.Command.{events_option, AreWithEvents, AsksToFollowAlone};
 ghost use Rattle.command_line.specs.Channels.{channels_max, AskForChannels};
 ghost use Rattle.command_line.specs.Flows.{AskForFlows};
 ghost use Rattle.flow_selection.specs.declared.selection.Selection.{Selection};
@@ -24,7 +24,7 @@ use crate::flows::asked_flows;
 use crate::losses::{asked_rule, asked_rule_alone};
 use clap::ArgMatches;
 use clap::error::ErrorKind;
-use docsis_wire::FillByte;
+use docsis_wire::{FillByte, SEQUENCE_MODULUS};
 use flow_selection::Selection;
 use loss_rule::LossRule;
 use std::alloc::{AllocError, Global};
@@ -117,7 +117,7 @@ impl From<clap::Error> for UsageFault {
 }
 
 /// The greatest number of a segment.
-const FIRST_MAX: u32 = 8191;
+const FIRST_MAX: u32 = SEQUENCE_MODULUS as u32 - 1;
 
 /// The greatest capacity of a mailbox or a ring.
 const CAPACITY_MAX: u16 = 65_535;
@@ -195,6 +195,22 @@ fn asked_rule_of<S: AsStr>(words: &[S], command: &str) -> Option<LossRule>
     asked_rule(options_of(words, command)?)
 }
 
+/// The rule by which the words, the program's name first, ask to replay and for nothing else.
+fn asked_replay_alone<S: AsStr>(words: &[S]) -> Option<LossRule>
+    ensures { (rule : LossRule)
+        → (result ≡ Some rule) ↔ AsksToReplayBy rule (map S.text words.now) }
+{
+    asked_rule_alone_of(words, "replay")
+}
+
+/// The rule by which the words, the program's name first, ask to run and for nothing else.
+fn asked_run_alone<S: AsStr>(words: &[S]) -> Option<LossRule>
+    ensures { (rule : LossRule)
+        → (result ≡ Some rule) ↔ AsksToRunByAlone rule (map S.text words.now) }
+{
+    asked_rule_alone_of(words, "run")
+}
+
 /// For how many channels the words, the program's name first, ask to follow.
 fn asked_channels_of<S: AsStr>(words: &[S]) -> Option<u8>
     ensures { (channels : ℕ) → (result ≡ Some channels)
@@ -221,16 +237,39 @@ fn flows_in_words<S: AsStr>(
     }
 }
 
+/// The options behind `--events`, if that stands before all others.
+fn behind_events<S: AsStr>(options: &[S]) -> Option<&[S]>
+    ensures { MatchOption result
+        ((rest : List (List ℕ)) → map S.text options.now ≢ events_option ∷ rest)
+        (λ rest. map S.text options.now ≡ events_option ∷ map S.text rest.now) }
+{
+    match options {
+        [first, rest @ ..] if first.as_str() == "--events" => Some(rest),
+        _ => None,
+    }
+}
+
+/// The options before `--events`, if that stands behind all others.
+fn before_events<S: AsStr>(options: &[S]) -> Option<&[S]>
+    ensures { MatchOption result
+        ((rest : List (List ℕ)) → map S.text options.now ≢ rest ++ events_option ∷ [])
+        (λ rest. map S.text options.now ≡ map S.text rest.now ++ events_option ∷ []) }
+{
+    match options {
+        [rest @ .., last] if last.as_str() == "--events" => Some(rest),
+        _ => None,
+    }
+}
+
 /// The options beside `--events`, if that stands before or behind all others.
 fn beside_events<S: AsStr>(options: &[S]) -> Option<&[S]>
     ensures { MatchOption result
         ((rest : List (List ℕ)) → ¬ AreWithEvents (map S.text options.now) rest)
         (λ rest. AreWithEvents (map S.text options.now) (map S.text rest.now)) }
 {
-    match options {
-        [first, rest @ ..] if first.as_str() == "--events" => Some(rest),
-        [rest @ .., last] if last.as_str() == "--events" => Some(rest),
-        _ => None,
+    match behind_events(options) {
+        Some(rest) => Some(rest),
+        None => before_events(options),
     }
 }
 
@@ -406,7 +445,7 @@ fn help_text<'a, S: AsStr>(alloc: Global, words: &'a [S]) -> Result<String, Usag
 fn asks_alone<S: AsStr>(words: &[S]) -> bool
     ensures { IsTrue result → AsksForAnEngine (map S.text words.now) }
 {
-    asks_to_join(words) || asks_to_map(words) || asked_rule_alone_of(words, "replay").is_some()
+    asks_to_join(words) || asks_to_map(words) || asked_replay_alone(words).is_some()
 }
 
 /// What the program's words ask for, its name first. No words at all are read as its name alone.
@@ -434,13 +473,13 @@ pub fn read_words<'a, S: AsStr>(alloc: Global, words: &'a [S]) -> Result<Command
     if asks_to_map(words) {
         return Ok(Command::Map);
     }
-    if let Some(rule) = asked_rule_alone_of(words, "replay") {
+    if let Some(rule) = asked_replay_alone(words) {
         return Ok(Command::Replay {
             rule,
             flows: Selection::All,
         });
     }
-    if let Some(rule) = asked_rule_alone_of(words, "run") {
+    if let Some(rule) = asked_run_alone(words) {
         return Ok(Command::Run {
             rule,
             mailbox: DEFAULT_CAPACITY,

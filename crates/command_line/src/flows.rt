@@ -1,7 +1,9 @@
 //! The options `--flows` and `--shard`: which flows are asked for.
 ghost use Rattle.std.specs.Prelude.{◌≡◌, map, IfOk, IfSome, None};
 ghost use Rattle.flow_selection.specs.declared.shard.Shard.{Shard};
+ghost use Rattle.text_lines.specs.Number.{IsNumber, IsNoNumber};
 ghost use Rattle.command_line.specs.Flows.{SaysShard, SaysRange, SaysRanges, AskForFlows};
+ghost use Rattle.command_line.specs.Flows.{shards_max};
 ghost use Rattle.command_line.specs.Inside.Flows.{AddsRange};
 
 use crate::command::UsageFault;
@@ -14,14 +16,22 @@ use text_lines::read_number;
 /// How many shards there are at most.
 const SHARDS_MAX: u16 = 16_384;
 
+/// A number of a shard's value, which is no greater than how many shards there may be.
+fn read_shard_number(text: &str) -> Option<u32>
+    ensures number { IfSome result (IsNumber text.now shards_max) }
+    ensures none { result ≡ None → IsNoNumber text.now shards_max }
+{
+    read_number(text.as_bytes(), u32::from(SHARDS_MAX))
+}
+
 /// The shard that a value says, as `2/4`: the third of four.
 fn read_shard(value: &str) -> Option<Shard>
     ensures says { IfSome result (SaysShard value.now) }
     ensures none { result ≡ None → (shard : Shard) → ¬ SaysShard value.now shard }
 {
-    let (remainder, count) = value.split_once('/')?;
-    let remainder = read_number(remainder.as_bytes(), u32::from(SHARDS_MAX))?;
-    let count = read_number(count.as_bytes(), u32::from(SHARDS_MAX))?;
+    let (remainder_text, count_text) = value.split_once('/')?;
+    let remainder = read_shard_number(remainder_text)?;
+    let count = read_shard_number(count_text)?;
     if remainder >= count {
         return None;
     }

@@ -17,7 +17,6 @@ use Rattle.receiver.specs.declared.setup.Setup.{Setup}
 use Rattle.receiver.specs.AdmittedOrder.{IsAdmittedOrder}
 use Rattle.receiver.specs.Items.{lane_setup}
 use Rattle.receiver.specs.Replaying.{IsBoundFor}
-use Rattle.receiver.specs.Ruled.{IsOutcomeBy}
 use Rattle.receiver.specs.declared.replaying.Replaying.{Replaying}
 use Rattle.receiver.specs.declared.width.Width.{Width}
 use Rattle.receiver.specs.Entries.{Entry, came, decided, tag_of, incoming_in}
@@ -31,8 +30,7 @@ use Rattle.texts.specs.declared.trace.line.TraceLine.{TraceLine}
 use Rattle.texts.specs.declared.trace.line.TraceLine.TheVariants as line
 use Rattle.texts.specs.Trace.Line.{Carries, flow_line, sid_line, burst_line, word_of}
 use Rattle.texts.specs.Trace.Place.{Said, HasFaultAmong, SaysFaulty, HasLineFault, with_line}
-use Rattle.texts.specs.AnyHeader.{any_header}
-use Rattle.texts.specs.Replay.{IsSetupOf}
+use Rattle.texts.specs.Replay.{IsSetupOf, IsPlayedBy}
 use Rattle.texts.specs.Inside.InPlace.{said_lane, IsInPlaceOf, IsBoundElsewhere, AreInPlace, with_entries, other_lines, HasReplayedInPart, IsPlayedInPart}
 use Rattle.texts.specs.Inside.Replayed.{HasReplayedLines, would_be_replayed}
 use Rattle.texts.specs.Inside.SetupLines.{SetupSoFar, HasSetup, HasMore}
@@ -200,13 +198,12 @@ in_its_place selected state width rule so_far taker has channel came_in input (i
         bound_elsewhere selected state.said so_far channel input is.0 has.setup (is.1 state.rule so_far.setup state.said.entries has.taken.1)
         (λ flow looked. subst (λ (found : Option ℕ). IfSome found (λ k. selected k ≡ false)) looked is.2)
 
--- what lines give, where the receiver gave this
+-- what lines give, where this is given for the others
 pub played_in_part : (given : TraceState Selection) (selected : Selection) (width : Width) (rule : LossRule) (so_far : SetupSoFar) (taker : Option (Replaying NoCheck))
-    (has : HasReplayedInPart given selected width rule so_far taker) (setup : Setup) (outcome : Outcome) → IsSetupOf (other_lines given has.others).said setup
-    → IsAdmittedOrder setup (incoming_in has.others) (map tag_of has.others) outcome.order.items
-    → IsOutcomeBy given.rule any_header setup (incoming_in has.others) outcome.order.items outcome → IsPlayedInPart given.state given.rule given.said outcome
-played_in_part given selected width rule so_far taker has setup outcome is admitted answered = record {
-  setup = setup;
+    (has : HasReplayedInPart given selected width rule so_far taker) (outcome : Outcome) → IsPlayedBy given.rule (other_lines given has.others).said outcome
+    → IsPlayedInPart given.state given.rule given.said outcome
+played_in_part given selected width rule so_far taker has outcome played = record {
+  setup = played.setup;
   given = record { flows = is.flows; sids = is.sids; mailbox = is.mailbox };
   other = incoming_in has.others;
   differs = record {
@@ -216,15 +213,21 @@ played_in_part given selected width rule so_far taker has setup outcome is admit
         let lane = admitted.lanes channel below in
         has.in_place.inputs channel below (admitted.answered channel)
         (record {
-          answers = subst (λ (l : LaneSetup). AreAnswered l (admitted.answered channel)) (same_lane given.said setup channel is.flows is.sids) lane.answers;
+          answers = subst (λ (l : LaneSetup). AreAnswered l (admitted.answered channel)) (same_lane given.said played.setup channel is.flows is.sids) lane.answers;
           inputs = lane.inputs;
         });
     decisions = sym has.in_place.decisions;
   };
-  order = outcome.order.items;
-  admitted = subst (λ (tags : List ℕ). IsAdmittedOrder setup (incoming_in has.others) tags outcome.order.items) has.in_place.tags admitted;
-  answered = answered;
+  order = played.order;
+  admitted = subst (λ (tags : List ℕ). IsAdmittedOrder played.setup (incoming_in has.others) tags played.order) has.in_place.tags admitted;
+  answered = played.answered;
 }
+  where
+    is : IsSetupOf (other_lines given has.others).said played.setup
+    is = played.given
+
+    admitted : IsAdmittedOrder played.setup (incoming_in has.others) (map tag_of has.others) played.order
+    admitted = played.admitted
 
 -- ---- a burst
 

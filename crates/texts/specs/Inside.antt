@@ -10,3 +10,4 @@ pub mod Replayed
 pub mod InPlace
 pub mod Selected
 pub mod Added
+pub mod PartsOfLines

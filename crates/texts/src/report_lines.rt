@@ -3,6 +3,7 @@ ghost use Rattle.std.specs.Prelude.{flat_map};
 ghost use Rattle.text_lines.specs.Putting.{Puts};
 ghost use Rattle.texts.specs.Report.{named, counts_text, frame_line, flow_line};
 ghost use Rattle.texts.specs.Report.{request_line, refused_text, lane_line};
+ghost use Rattle.texts.specs.Inside.PartsOfLines.{flow_words, arrived_text, asked_text};
 
 use flow_core::FlowCounts;
 use lane::{LaneReport, Request};
@@ -21,13 +22,20 @@ pub(crate) fn put_named<O: PutText>(out: &mut O, word: &str, number: u64)
 fn put_counts<O: PutText>(out: &mut O, counts: &FlowCounts)
     ensures { Puts O.after out.old (counts_text counts.now) out.new }
 {
+    put_arrived(out, counts);
+    put_named(out, "lost", counts.lost);
+    put_named(out, "frames", counts.frames);
+    put_named(out, "skipped", counts.skipped);
+}
+
+/// Puts what was counted of the segments of a flow that came.
+fn put_arrived<O: PutText>(out: &mut O, counts: &FlowCounts)
+    ensures { Puts O.after out.old (arrived_text counts.now) out.new }
+{
     put_named(out, "kept", counts.kept);
     put_named(out, "late", counts.late);
     put_named(out, "repeat", counts.repeat);
     put_named(out, "beyond", counts.beyond);
-    put_named(out, "lost", counts.lost);
-    put_named(out, "frames", counts.frames);
-    put_named(out, "skipped", counts.skipped);
 }
 
 /// Puts the line of a frame of the flow with this index.
@@ -45,11 +53,18 @@ pub fn put_frame_line<O: PutText>(out: &mut O, k: usize, frame: &[u8])
 pub fn put_flow_line<O: PutText>(out: &mut O, k: usize, sfid: u32, counts: &FlowCounts)
     ensures { Puts O.after out.old (flow_line k sfid counts.now) out.new }
 {
+    put_flow_words(out, k, sfid);
+    put_counts(out, counts);
+    put_word(out, "\n");
+}
+
+/// Puts what stands before the counts in the line of a flow.
+fn put_flow_words<O: PutText>(out: &mut O, k: usize, sfid: u32)
+    ensures { Puts O.after out.old (flow_words k sfid) out.new }
+{
     put_word(out, "flow");
     put_spaced(out, k as u64);
     put_spaced(out, u64::from(sfid));
-    put_counts(out, counts);
-    put_word(out, "\n");
 }
 
 /// Puts the line of a request.
@@ -59,10 +74,17 @@ pub fn put_request_line<O: PutText>(out: &mut O, request: &Request)
     put_word(out, "request");
     put_spaced(out, u64::from(request.channel));
     put_spaced(out, request.flow as u64);
+    put_asked(out, request);
+    put_word(out, "\n");
+}
+
+/// Puts the cluster, the units and the segment's number of a request.
+fn put_asked<O: PutText>(out: &mut O, request: &Request)
+    ensures { Puts O.after out.old (asked_text request.now) out.new }
+{
     put_spaced(out, u64::from(request.cluster));
     put_spaced(out, u64::from(request.units));
     put_spaced(out, u64::from(request.sequence));
-    put_word(out, "\n");
 }
 
 /// Puts the numbers of refusals, or `-` if there is none.

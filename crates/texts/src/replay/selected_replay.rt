@@ -6,7 +6,7 @@ ghost use Rattle.texts.specs.Inside.Replayed.{is_profile};
 ghost use Rattle.texts.specs.Inside.InPlace.{HasReplayedInPart, IsPlayedInPart};
 ghost use Rattle.texts.specs.Inside.TraceInput.{TraceState, nothing_taken};
 
-use super::ReplayInput;
+use super::{ReplayInput, finish_replay};
 use flow_selection::Selection;
 use loss_rule::LossRule;
 use receiver::{Outcome, Width};
@@ -57,8 +57,7 @@ impl<'a> SelectedReplay<'a> {
             self.entry.input.taker
             → IsPlayedInPart given.state given.rule given.said outcome) }
     {
-        let (setup, replay) = self.input.finish(alloc)?;
-        replay.finish(alloc, &setup)
+        finish_replay(alloc, self.input)
     }
 }
 

@@ -11,9 +11,9 @@ ghost use Rattle.texts.specs.Trace.Line.{channel_number, flow_number};
 ghost use Rattle.texts.specs.Inside.TraceLine.{IsLeastFaultByItself};
 ghost use Rattle.texts.specs.declared.trace.line.TraceLine.TheVariants as line;
 
-use docsis_wire::Bytes;
-use flow_core::FlowRecord;
-use lane::{Input, SidRow};
+use docsis_wire::{Bytes, SEQUENCE_MODULUS};
+use flow_core::{CLUSTERS_MAX, FlowRecord, WINDOW_MAX};
+use lane::{Input, SIDS, SidRow};
 use receiver::{Decision, Width};
 use std::alloc::Global;
 use text_lines::{
@@ -22,9 +22,9 @@ use text_lines::{
 };
 
 /// The greatest service identifier.
-const SID_MAX: u32 = 16_383;
+const SID_MAX: u32 = SIDS as u32 - 1;
 /// The greatest sequence number.
-const SEQUENCE_MAX: u32 = 8191;
+const SEQUENCE_MAX: u32 = SEQUENCE_MODULUS as u32 - 1;
 
 /// What a line of a trace says.
 #[derive(Debug, Drop)]
@@ -158,8 +158,8 @@ fn read_flow(ring: u16, rest: &[u8]) -> Result<TraceLine, LineFault>
     };
     let sfid = number_of(sfid, u32::MAX)?;
     let first = number_of(first, SEQUENCE_MAX)? as u16;
-    let window = number_between(window, 1, 4096)? as u16;
-    let clusters = number_between(clusters, 1, 8)? as u8;
+    let window = number_between(window, 1, WINDOW_MAX as u32)? as u16;
+    let clusters = number_between(clusters, 1, CLUSTERS_MAX as u32)? as u8;
     Ok(TraceLine::Flow(FlowRecord {
         sfid,
         first,

@@ -1,7 +1,7 @@
 -- Words are read as what they ask for.
-use Rattle.std.proofs.Common.{◌≡◌, Bool, Ok, inl, sym, ap, ◌∙◌, arith, refl}
+use Rattle.std.proofs.Common.{Bool, Ok, sym, ap, ◌∙◌, arith}
 use Rattle.std.proofs.lemmas.Option.{same_Some}
-use Rattle.std.specs.Prelude.{map, not, codes}
+use Rattle.std.specs.Prelude.{map, codes}
 use Rattle.loss_rule.specs.declared.rule.LossRule.{LossRule}
 use Rattle.flow_selection.specs.declared.selection.Selection.TheVariants.{All}
 use Rattle.command_line.specs.declared.command.Command.TheVariants.{Follow}
@@ -20,47 +20,47 @@ use Rattle.command_line.proofs.command.read_words.Goals.{then-not-asks_alone+in_
 pub returns-in-Some-clause-asked : goal.returns-in-Some-clause-asked
 returns-in-Some-clause-asked g c =
     let words = map g.S.AsStr.text c.args.words.now in
-    let replays = (c.asked_rule_alone_of.ensures c.in-Some.rule).0 c.in-Some.is in
+    let replays = (c.asked_replay_alone.ensures c.in-Some.rule).0 c.in-Some.is in
     (AsksToReplayFlows-alone c.in-Some.rule words replays, replays_without_help c.in-Some.rule words replays)
 
 pub returns-in-Some-clause-replay : goal.returns-in-Some-clause-replay
-returns-in-Some-clause-replay g c = λ rule asks. cc ((c.asked_rule_alone_of.ensures rule).1 asks, c.in-Some.is)
+returns-in-Some-clause-replay g c = λ rule asks. cc ((c.asked_replay_alone.ensures rule).1 asks, c.in-Some.is)
 
 pub returns-in-Some-clause-run : goal.returns-in-Some-clause-run
 returns-in-Some-clause-run g c = λ rule asks.
-    let replays = (c.asked_rule_alone_of.ensures c.in-Some.rule).0 c.in-Some.is in
+    let replays = (c.asked_replay_alone.ensures c.in-Some.rule).0 c.in-Some.is in
     absurd (commands_apart (codes "replay") (codes "run") replay_is_not_run (map g.S.AsStr.text c.args.words.now) replays.0 asks.0)
 
-pub returns-in-Some-asked_rule_alone_of-clause-asked : goal.returns-in-Some-asked_rule_alone_of-clause-asked
-returns-in-Some-asked_rule_alone_of-clause-asked g c =
+pub returns-in-Some-asked_run_alone-clause-asked : goal.returns-in-Some-asked_run_alone-clause-asked
+returns-in-Some-asked_run_alone-clause-asked g c =
     let words = map g.S.AsStr.text c.args.words.now in
-    let rule = c.in-Some-asked_rule_alone_of.rule in
-    let runs = (c.asked_rule_alone_of-2.ensures rule).0 c.in-Some-asked_rule_alone_of.is in
+    let rule = c.in-Some-asked_run_alone.rule in
+    let runs = (c.asked_run_alone.ensures rule).0 c.in-Some-asked_run_alone.is in
     ((runs.0, AskForRule-alone rule (options_in words) runs.1), runs_without_help rule words runs, omega arith, omega arith)
 
-pub returns-in-Some-asked_rule_alone_of-clause-replay : goal.returns-in-Some-asked_rule_alone_of-clause-replay
-returns-in-Some-asked_rule_alone_of-clause-replay g c = λ rule asks. absurd (c.in_default.not-Some rule ((c.asked_rule_alone_of.ensures rule).1 asks))
+pub returns-in-Some-asked_run_alone-clause-replay : goal.returns-in-Some-asked_run_alone-clause-replay
+returns-in-Some-asked_run_alone-clause-replay g c = λ rule asks. absurd (c.in_default.not-Some rule ((c.asked_replay_alone.ensures rule).1 asks))
 
-pub returns-in-Some-asked_rule_alone_of-clause-run : goal.returns-in-Some-asked_rule_alone_of-clause-run
-returns-in-Some-asked_rule_alone_of-clause-run g c = λ rule asks. cc ((c.asked_rule_alone_of-2.ensures rule).1 asks, c.in-Some-asked_rule_alone_of.is)
+pub returns-in-Some-asked_run_alone-clause-run : goal.returns-in-Some-asked_run_alone-clause-run
+returns-in-Some-asked_run_alone-clause-run g c = λ rule asks. cc ((c.asked_run_alone.ensures rule).1 asks, c.in-Some-asked_run_alone.is)
 
 pub returns-in_default-before_help-clause-run : goal.returns-in_default-before_help-clause-run
-returns-in_default-before_help-clause-run g c = λ rule asks. absurd (c.in_default-asked_rule_alone_of.not-Some rule ((c.asked_rule_alone_of-2.ensures rule).1 asks))
+returns-in_default-before_help-clause-run g c = λ rule asks. absurd (c.in_default-asked_run_alone.not-Some rule ((c.asked_run_alone.ensures rule).1 asks))
 
 pub returns-in_err-help_text-clause-run : goal.returns-in_err-help_text-clause-run
-returns-in_err-help_text-clause-run g c = λ rule asks. absurd (c.in_default-asked_rule_alone_of.not-Some rule ((c.asked_rule_alone_of-2.ensures rule).1 asks))
+returns-in_err-help_text-clause-run g c = λ rule asks. absurd (c.in_default-asked_run_alone.not-Some rule ((c.asked_run_alone.ensures rule).1 asks))
 
 pub returns-clause-run : goal.returns-clause-run
-returns-clause-run g c = λ rule asks. absurd (c.in_default-asked_rule_alone_of.not-Some rule ((c.asked_rule_alone_of-2.ensures rule).1 asks))
+returns-clause-run g c = λ rule asks. absurd (c.in_default-asked_run_alone.not-Some rule ((c.asked_run_alone.ensures rule).1 asks))
 
 pub returns-in_default-before_help-clause-replay : goal.returns-in_default-before_help-clause-replay
-returns-in_default-before_help-clause-replay g c = λ rule asks. absurd (c.in_default.not-Some rule ((c.asked_rule_alone_of.ensures rule).1 asks))
+returns-in_default-before_help-clause-replay g c = λ rule asks. absurd (c.in_default.not-Some rule ((c.asked_replay_alone.ensures rule).1 asks))
 
 pub returns-in_err-help_text-clause-replay : goal.returns-in_err-help_text-clause-replay
-returns-in_err-help_text-clause-replay g c = λ rule asks. absurd (c.in_default.not-Some rule ((c.asked_rule_alone_of.ensures rule).1 asks))
+returns-in_err-help_text-clause-replay g c = λ rule asks. absurd (c.in_default.not-Some rule ((c.asked_replay_alone.ensures rule).1 asks))
 
 pub returns-clause-replay : goal.returns-clause-replay
-returns-clause-replay g c = λ rule asks. absurd (c.in_default.not-Some rule ((c.asked_rule_alone_of.ensures rule).1 asks))
+returns-clause-replay g c = λ rule asks. absurd (c.in_default.not-Some rule ((c.asked_replay_alone.ensures rule).1 asks))
 
 pub returns-clause-asked : goal.returns-clause-asked
 returns-clause-asked g c =
@@ -84,12 +84,12 @@ returns-clause-asked g c =
 
 pub returns-in-Some-clause-follow : goal.returns-in-Some-clause-follow
 returns-in-Some-clause-follow g c = λ rule events asks.
-    let replays = (c.asked_rule_alone_of.ensures c.in-Some.rule).0 c.in-Some.is in
+    let replays = (c.asked_replay_alone.ensures c.in-Some.rule).0 c.in-Some.is in
     absurd (commands_apart (codes "follow") (codes "replay") follow_is_not_replay (map g.S.AsStr.text c.args.words.now) asks.0 replays.0)
 
-pub returns-in-Some-asked_rule_alone_of-clause-follow : goal.returns-in-Some-asked_rule_alone_of-clause-follow
-returns-in-Some-asked_rule_alone_of-clause-follow g c = λ rule events asks.
-    let runs = (c.asked_rule_alone_of-2.ensures c.in-Some-asked_rule_alone_of.rule).0 c.in-Some-asked_rule_alone_of.is in
+pub returns-in-Some-asked_run_alone-clause-follow : goal.returns-in-Some-asked_run_alone-clause-follow
+returns-in-Some-asked_run_alone-clause-follow g c = λ rule events asks.
+    let runs = (c.asked_run_alone.ensures c.in-Some-asked_run_alone.rule).0 c.in-Some-asked_run_alone.is in
     absurd (commands_apart (codes "follow") (codes "run") follow_is_not_run (map g.S.AsStr.text c.args.words.now) asks.0 runs.0)
 
 pub returns-in-Some-asked_follow_alone-clause-asked : goal.returns-in-Some-asked_follow_alone-clause-asked
@@ -105,10 +105,10 @@ returns-in-Some-asked_follow_alone-clause-asked g c =
     )
 
 pub returns-in-Some-asked_follow_alone-clause-replay : goal.returns-in-Some-asked_follow_alone-clause-replay
-returns-in-Some-asked_follow_alone-clause-replay g c = λ rule asks. absurd (c.in_default.not-Some rule ((c.asked_rule_alone_of.ensures rule).1 asks))
+returns-in-Some-asked_follow_alone-clause-replay g c = λ rule asks. absurd (c.in_default.not-Some rule ((c.asked_replay_alone.ensures rule).1 asks))
 
 pub returns-in-Some-asked_follow_alone-clause-run : goal.returns-in-Some-asked_follow_alone-clause-run
-returns-in-Some-asked_follow_alone-clause-run g c = λ rule asks. absurd (c.in_default-asked_rule_alone_of.not-Some rule ((c.asked_rule_alone_of-2.ensures rule).1 asks))
+returns-in-Some-asked_follow_alone-clause-run g c = λ rule asks. absurd (c.in_default-asked_run_alone.not-Some rule ((c.asked_run_alone.ensures rule).1 asks))
 
 pub returns-in-Some-asked_follow_alone-clause-follow : goal.returns-in-Some-asked_follow_alone-clause-follow
 returns-in-Some-asked_follow_alone-clause-follow g c = λ rule events asks.
@@ -129,10 +129,10 @@ returns-clause-follow g c = λ rule events asks.
     absurd (c.in_default-asked_follow_alone.not-Some (rule, events) ((c.asked_follow_alone.ensures rule events).1 asks))
 
 pub returns-in_err-read_with_options-clause-run : goal.returns-in_err-read_with_options-clause-run
-returns-in_err-read_with_options-clause-run g c = λ rule asks. absurd (c.in_default-asked_rule_alone_of.not-Some rule ((c.asked_rule_alone_of-2.ensures rule).1 asks))
+returns-in_err-read_with_options-clause-run g c = λ rule asks. absurd (c.in_default-asked_run_alone.not-Some rule ((c.asked_run_alone.ensures rule).1 asks))
 
 pub returns-in_err-read_with_options-clause-replay : goal.returns-in_err-read_with_options-clause-replay
-returns-in_err-read_with_options-clause-replay g c = λ rule asks. absurd (c.in_default.not-Some rule ((c.asked_rule_alone_of.ensures rule).1 asks))
+returns-in_err-read_with_options-clause-replay g c = λ rule asks. absurd (c.in_default.not-Some rule ((c.asked_replay_alone.ensures rule).1 asks))
 
 pub returns-in_err-read_with_options-clause-follow : goal.returns-in_err-read_with_options-clause-follow
 returns-in_err-read_with_options-clause-follow g c = λ rule events asks.

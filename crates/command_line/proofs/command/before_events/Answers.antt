@@ -1,0 +1,11 @@
+use Rattle.std.proofs.lemmas.Bool.Decides.{Decides-eqb}
+use Rattle.std.proofs.lemmas.Slice.Eq.{slice_eq-Decides}
+use Rattle.command_line.specs.Command.{events_option}
+use Rattle.command_line.proofs.AskedEvents.{events_last}
+use Rattle.command_line.proofs.command.before_events.Goals as goal
+
+pub returns-in-len1-up : goal.returns-in-len1-up
+returns-in-len1-up g c =
+    let same = slice_eq-Decides Decides-eqb c.as_str.result.now events_option c.eq.result c.eq.ensures in
+    events_last g.S.AsStr.text c.args.options.now c.in-len1-up.len_at_least c.last-item.result c.as_str.result.now c.last-item.is c.as_str.ensures
+    (same.0 c.if-eq.true)

@@ -1,7 +1,0 @@
-use Rattle.text_lines.proofs.PutTexts.{puts-then}
-use Rattle.texts.proofs.report_lines.put_counts.Goals as goal
-
-pub returns : goal.returns
-returns g c = (puts-then g.O.PutText.after (puts-then g.O.PutText.after (puts-then g.O.PutText.after (puts-then g.O.PutText.after (puts-then g.O.PutText.after (puts-then g.O.PutText.after c.put_named.ensures c.put_named-2.ensures) c.put_named-3.ensures)
-    c.put_named-4.ensures) c.put_named-5.ensures)
-    c.put_named-6.ensures) c.put_named-7.ensures)

@@ -1,7 +1,0 @@
-use Rattle.text_lines.proofs.PutTexts.{puts-then}
-use Rattle.texts.proofs.report_lines.put_request_line.Goals as goal
-
-pub returns : goal.returns
-returns g c = rw (c.from.ensures, c.from-2.ensures, c.from-3.ensures, c.from-4.ensures) at (puts-then g.O.PutText.after (puts-then g.O.PutText.after (puts-then g.O.PutText.after (puts-then g.O.PutText.after (puts-then g.O.PutText.after (puts-then g.O.PutText.after c.put_word.ensures c.put_spaced.ensures) c.put_spaced-2.ensures)
-    c.put_spaced-3.ensures) c.put_spaced-4.ensures)
-    c.put_spaced-5.ensures) c.put_word-2.ensures)
