@@ -10,6 +10,7 @@ ghost use Rattle.capture_command.specs.Asked.{AskForWait, AskForLink, AskForChec
 ghost use Rattle.capture_command.specs.Asked.{AskForSettings, AskForHelp, AskToCapture};
 
 use crate::arguments::capture_line;
+use capture_map::MOST_FLOWS;
 use captured_flows::Waits;
 use clap::ArgMatches;
 use clap::error::ErrorKind;
@@ -30,7 +31,7 @@ const REORDER: u32 = 2;
 /// Nanoseconds in a millisecond.
 const MILLISECOND: u64 = 1_000_000;
 /// The greatest index of a flow of a map.
-const LAST_FLOW: u16 = 16_383;
+const LAST_FLOW: u16 = MOST_FLOWS as u16 - 1;
 
 /// The files that are asked for besides the frames.
 #[derive(Debug, Drop)]

@@ -6,15 +6,15 @@ ghost use Rattle.capture_map.specs.declared.map.MapFlow.{MapFlow};
 ghost use Rattle.capture_map.specs.declared.map.MapSid.{MapSid};
 ghost use Rattle.capture_map.specs.declared.map.MapChannel.{MapChannel};
 
-use crate::map::{MapChannel, MapFlow, MapSid};
+use crate::map::{MOST_CHANNELS, MOST_FLOWS, MapChannel, MapFlow, MapSid};
 use text_lines::{read_number, read_number_in};
 
 /// The greatest number of a channel.
-const CHANNEL_MAX: u32 = 15;
+const CHANNEL_MAX: u32 = MOST_CHANNELS as u32 - 1;
 /// The greatest service identifier.
 const SID_MAX: u32 = 16_383;
 /// The greatest index of a flow.
-const FLOW_MAX: u32 = 16_383;
+const FLOW_MAX: u32 = MOST_FLOWS as u32 - 1;
 /// The greatest sequence number.
 const SEQUENCE_MAX: u32 = 8191;
 
