@@ -1,7 +1,8 @@
 //! Frames that are kept in order.
 ghost use Rattle.std.specs.Prelude.{◌≡◌, ◌≤◌, ◌↔◌, ◌++◌, ◌∷◌, [], ℕ, List, All, Some, None, length};
 ghost use Rattle.std.specs.Prelude.{IsTrue, IfSome, OnOk, OnErr, slice_get};
-ghost use Rattle.std.specs.Iterator.{YieldsFirstRef, item_count};
+ghost use Rattle.std.specs.Iterator.{YieldsFirstRef, UpTo, item_count};
+ghost use Rattle.std.specs.Iterator.SizeHint.{IsWithinCount};
 ghost use Rattle.consumer.specs.Listed.{frames_left};
 
 use docsis_wire::Bytes;
@@ -142,7 +143,12 @@ impl<'a> Iterator for Frames<'a> {
         Some(frame)
     }
 
-    fn size_hint(&self) -> (usize, Option<usize>) {
+    fn size_hint(&self) -> (usize, Option<usize>)
+        ensures lower { IsWithinCount result.0 (item_count frames_left self.now) }
+        ensures upper { IfSome result.1 (UpTo (item_count frames_left self.now)) }
+        ensures exact { result
+            ≡ (length (frames_left self.now), Some (length (frames_left self.now))) }
+    {
         let left = self.list.len().saturating_sub(self.next);
         (left, Some(left))
     }
