@@ -63,8 +63,12 @@ def trace_text(sent):
         yield grant(number % CHANNELS, number, 0, segment) + burst(number % CHANNELS, number, segment)
 
 
-INPUTS = {"join": join_text, **dict.fromkeys(("follow", "replay", *SHARDS), trace_text)}
-INPUTS |= dict.fromkeys(("capture", "capture_that_tells_none"), packed)
+# What makes an input of which commands.
+INPUTS = {
+    join_text: ["join"],
+    trace_text: ["follow", "replay", *(command for command, words in SHARDS.items() if words[0] != "capture")],
+    packed: ["capture", "capture_that_tells_none"],
+}
 
 
 def words_of(command, room):
@@ -73,10 +77,10 @@ def words_of(command, room):
     return [os.path.join(room, word) if word == MAP else word for word in words]
 
 
-def write_input(command, shape, size, file):
+def write_input(make, shape, size, file):
     """Writes an input of a shape and at least so many bytes."""
     written = 0
-    for piece in INPUTS[command](SHAPES[shape](random.Random(20))):
+    for piece in make(SHAPES[shape](random.Random(20))):
         written += file.write(piece)
         if written >= size:
             return
@@ -102,27 +106,38 @@ def frames_in(command, taken):
     return sum(line.startswith(FRAME_LINES[command]) for line in taken)
 
 
-def held(segrx, command, shape, size, room):
+def held(segrx, command, room, given):
     """The most bytes that were resident while the program took an input, and how many frames it
     gave, where it holds them."""
-    with open(os.path.join(room, f"{command}-{shape}-{size}"), "w+b") as given, tempfile.TemporaryFile() as taken:
-        write_input(command, shape, size, given)
+    with tempfile.TemporaryFile() as taken:
         most = min(resident(segrx, command, room, given, taken) for _ in range(TURNS))
         return most, 0 if command in FLAT else frames_in(command, taken)
 
 
-def growth(segrx, command, shape, room):
+def growth(command, small, large):
     """How many bytes more are resident with the large input: of a command whose memory may not grow
     for each byte more of it, and of one that holds its input for each frame more."""
-    small, few = held(segrx, command, shape, SMALL, room)
-    large, many = held(segrx, command, shape, SMALL * TIMES, room)
-    return (large - small) / (SMALL * (TIMES - 1) if command in FLAT else many - few)
+    (most, many), (least, few) = large, small
+    return (most - least) / (SMALL * (TIMES - 1) if command in FLAT else many - few)
+
+
+def growths(segrx, make, shape, room):
+    """How the memory of each command grows that takes these inputs."""
+    found = []
+    for size in SMALL, SMALL * TIMES:
+        with tempfile.NamedTemporaryFile("w+b", dir=room) as given:
+            write_input(make, shape, size, given)
+            found.append([held(segrx, command, room, given) for command in INPUTS[make]])
+    return [((command, shape), growth(command, *pair)) for command, *pair in zip(INPUTS[make], *found)]
 
 
 def measured_memory(segrx, pool):
     """Of each command and shape how its memory grows."""
-    pairs = list(itertools.product(FLAT + HOLDING, SHAPES))
     with tempfile.TemporaryDirectory() as room:
         with open(os.path.join(room, MAP), "w") as file:
             file.write(map_lines())
-        return dict(zip(pairs, pool.map(lambda pair: growth(segrx, *pair, room), pairs)))
+        # What takes longest to make first.
+        kinds = itertools.product(reversed(INPUTS), reversed(SHAPES))
+        of_inputs = pool.map(lambda kind: growths(segrx, *kind, room), kinds)
+        found = dict(itertools.chain.from_iterable(of_inputs))
+    return {pair: found[pair] for pair in itertools.product(FLAT + HOLDING, SHAPES)}

@@ -9,7 +9,6 @@ the other flows all merges are tried, and where two of them stand alike after th
 are followed once.
 """
 
-import copy
 import itertools
 import math
 
@@ -63,13 +62,18 @@ def is_settled(record, rule, items, flow):
     return are_all_kept(first, window, lanes)
 
 
-def copied(flow):
-    """A flow that stands as this one does, and goes on by itself."""
-    one = copy.copy(flow)
-    one.flow, one.verdicts, one.gaps = copy.copy(flow.flow), dict(flow.verdicts), list(flow.gaps)
-    one.flow.kept, one.flow.declared = dict(flow.flow.kept), set(flow.flow.declared)
-    one.flow.lasts = dict(flow.flow.lasts)
+def with_other(thing, **fields):
+    """A thing like this one but for these fields: `copy.copy` takes three times as long."""
+    one = object.__new__(type(thing))
+    one.__dict__ = {**thing.__dict__, **fields}
     return one
+
+
+def copied(outcome):
+    """A flow that stands as this one does, and goes on by itself."""
+    flow = outcome.flow
+    own = with_other(flow, kept=dict(flow.kept), declared=set(flow.declared), lasts=dict(flow.lasts))
+    return with_other(outcome, flow=own, verdicts=dict(outcome.verdicts), gaps=list(outcome.gaps))
 
 
 class Standing:

@@ -9,7 +9,6 @@ of which the first eight are its header.
 
 import bisect
 import collections
-import itertools
 
 MODULUS, AHEAD = 8192, 4096
 Header = collections.namedtuple("Header", "pfi pointer number cluster request")
@@ -156,20 +155,19 @@ class RuledFlow(Flow):
         if self.rule != DECIDED:
             index = self.index(number)
             self.lasts[channel] = index if index >= self.expected else None
-            self.lose(self.is_passed)
+            self.lose_before(self.passed_to())
         if self.rule == SLID and self.index(number) >= self.expected + self.window:
-            end = self.index(number)
-            self.lose(lambda index: index + self.window <= end)
+            self.lose_before(self.index(number) - self.window + 1)
         return self.arrive(segment)
 
-    def is_passed(self, index):
-        """Whether the last segment of each of the flow's channels lies after the index, so that it
-        can't come any more."""
-        return all(last is not None and index < last for last in self.lasts.values())
+    def passed_to(self):
+        """The first index that can still come: on some channel of the flow the last segment doesn't
+        lie after it."""
+        return self.expected if None in self.lasts.values() else max(min(self.lasts.values()), self.expected)
 
-    def lose(self, is_lost):
-        """Declares all that is missing from the expected index on, up to the first one not lost."""
-        lost = {index for index in itertools.takewhile(is_lost, itertools.count(self.expected)) if index not in self.kept}
+    def lose_before(self, end):
+        """Declares all that is missing from the expected index on and lies before this one."""
+        lost = {index for index in range(self.expected, end) if index not in self.kept}
         if lost:
             self.declared |= lost
             self.lost_by_rule |= lost
@@ -191,11 +189,10 @@ class LiveFlow(RuledFlow):
     def number(self, index):
         return (self.first + index) % MODULUS
 
-    def lose(self, is_lost):
-        end = next(index for index in itertools.count(self.expected) if not is_lost(index))
+    def lose_before(self, end):
         if end > self.expected:
             self.skipped_to = self.number(end)
-        super().lose(is_lost)
+        super().lose_before(end)
 
     def told(self, channel, segment):
         """What is told of a segment that comes: the verdict, and up to which number the rule

@@ -271,6 +271,7 @@ class Outcome:
     """What comes of a trace whose lines are taken in their order, by this rule."""
 
     def __init__(self, trace, rule):
+        self.trace = trace
         self.lanes = [Lane(channel, trace) for channel in range(CHANNELS)]
         self.flows = [trace.new_flow(flow, rule) for flow in range(len(trace.flows))]
         items = [lane.admitted() for lane in self.lanes] + [iter(trace.decisions)]
