@@ -1,10 +1,13 @@
 //! A record of a capture, as a reader of pcapng gives it.
 ghost use Rattle.std.specs.Prelude.{◌≡◌, ◌↔◌, ◌<◌, length, IsTrue};
 
+/// The link type of an XRA analyser's packets.
+pub const XRA: u32 = 273;
+
 /// A packet as it was captured.
 #[derive(Debug, Drop)]
 pub struct CaptureRecord {
-    /// The type of the packet: 273 for those of an XRA analyser.
+    /// The type of the packet, [`XRA`] for those of an XRA analyser.
     pub link_type: u32,
     /// Nanoseconds since the beginning of 1970.
     pub nanoseconds: u64,

@@ -61,7 +61,7 @@ mod tlv;
 pub use burst::{Burst, BurstKind, Passed, read_burst};
 pub use capture_fault::CaptureFault;
 pub use capture_reader::CaptureReader;
-pub use capture_record::{CaptureRecord, CaptureTaken};
+pub use capture_record::{CaptureRecord, CaptureTaken, XRA};
 pub use endian::Endian;
 pub use packet::{Packet, read_packet};
 pub use pcap::{PCAP_HEADER_BYTES, PcapHeader, RECORD_HEADER_BYTES, RecordHead, Resolution};

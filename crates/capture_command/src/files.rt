@@ -14,13 +14,13 @@ use std::rt::Files;
 /// The longest map that is read, in bytes.
 const MAP_MAX: usize = 16_777_216;
 /// How many bytes are asked of its file at once.
-const PIECE_BYTES: usize = 65_536;
+const MAP_PIECE_BYTES: usize = 65_536;
 
 /// All bytes that a reader gives.
 fn read_all<R: Read>(alloc: Global, reader: &mut Device<R>) -> Result<Vec<u8>, CaptureCommandFault>
     ensures { IfOk result (λ text. AreAllOf (R.remaining (inner_of reader.old)) text.items) }
 {
-    let mut piece = zeros(alloc, PIECE_BYTES)?;
+    let mut piece = zeros(alloc, MAP_PIECE_BYTES)?;
     let mut text = Vec::new(alloc);
     for _ in 0..=MAP_MAX {
         let Ok(count) = read_some(reader, &mut piece) else {

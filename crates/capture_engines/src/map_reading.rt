@@ -11,15 +11,12 @@ ghost use Rattle.capture_engines.specs.Inside.Reading.{HasMapped, TakesRecord, T
 ghost use Rattle.capture_engines.specs.Inside.Reading.{TakesPart, MapsSome, MapsPiece, CannotMap};
 ghost use Rattle.capture_engines.specs.Inside.Reading.{EndsEarly};
 
-use capture::{CaptureReader, CaptureRecord, read_burst};
+use capture::{CaptureReader, CaptureRecord, XRA, read_burst};
 use engines::EngineFault;
 use registered_map::RegisteredMap;
 use registrations::{JoinFault, Part, Unfinished, read_part};
 use seen_sids::SeenSids;
 use std::alloc::Global;
-
-/// The link type of an XRA analyser's packets.
-const XRA: u32 = 273;
 
 /// What the records of a capture tell so far.
 #[derive(Drop)]

@@ -10,15 +10,14 @@ ghost use Rattle.capture_engines.specs.Mapping.{text_of, MapsCapture};
 ghost use Rattle.capture_engines.specs.Inside.Reading.{HasReadAll, HasReadCause};
 
 use crate::map_reading::MapReading;
-use engines::{Device, EngineFault, TextWriter, WriteFault, held_room, read_some, zeros};
+use engines::{
+    Device, EngineFault, PIECE_BYTES, TextWriter, WriteFault, held_room, read_some, zeros,
+};
 use registered_map::put_map;
 use seen_sids::put_seen;
 use std::alloc::Global;
 use std::io::{Read, Write};
 use text_lines::PutText;
-
-/// How many bytes are asked of the reader at once.
-const PIECE_BYTES: usize = 262_144;
 
 /// Reads a capture to its end.
 fn read_capture<R: Read>(alloc: Global, reader: &mut Device<R>) -> Result<MapReading, EngineFault>

@@ -6,17 +6,16 @@ ghost use Rattle.capture_map.specs.declared.map.MapFlow.{MapFlow};
 ghost use Rattle.capture_map.specs.declared.map.MapSid.{MapSid};
 ghost use Rattle.capture_map.specs.declared.map.MapChannel.{MapChannel};
 
-use crate::map::{MOST_CHANNELS, MOST_FLOWS, MapChannel, MapFlow, MapSid};
+use crate::map::{MOST_CHANNELS, MOST_FLOWS, MapChannel, MapFlow, MapSid, SID_MAX};
+use docsis_wire::SEQUENCE_MODULUS;
 use text_lines::{read_number, read_number_in};
 
 /// The greatest number of a channel.
 const CHANNEL_MAX: u32 = MOST_CHANNELS as u32 - 1;
-/// The greatest service identifier.
-const SID_MAX: u32 = 16_383;
 /// The greatest index of a flow.
 const FLOW_MAX: u32 = MOST_FLOWS as u32 - 1;
 /// The greatest sequence number.
-const SEQUENCE_MAX: u32 = 8191;
+const SEQUENCE_MAX: u32 = SEQUENCE_MODULUS as u32 - 1;
 
 /// The first number of a flow, none where it is `auto`.
 fn first_said(field: &[u8]) -> Option<Option<u16>>
@@ -66,7 +65,7 @@ pub(crate) fn sid_said(channel: &[u8], sid: &[u8], flow: &[u8]) -> Option<MapSid
 {
     Some(MapSid {
         channel: read_number(channel, CHANNEL_MAX)? as u8,
-        sid: read_number(sid, SID_MAX)? as u16,
+        sid: read_number(sid, u32::from(SID_MAX))? as u16,
         flow: read_number(flow, FLOW_MAX)? as u16,
     })
 }

@@ -4,6 +4,8 @@
 pub const MOST_CHANNELS: usize = 16;
 /// A map may have so many flows.
 pub const MOST_FLOWS: usize = 16_384;
+/// The greatest service identifier.
+pub const SID_MAX: u16 = 16_383;
 
 /// A flow. Its index is its place among the flows.
 #[derive(Clone, Copy, Debug, PartialEq, Eq)]

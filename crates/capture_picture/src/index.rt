@@ -2,8 +2,10 @@
 ghost use Rattle.std.specs.Prelude.{◌≡◌};
 ghost use Rattle.capture_picture.specs.Index.{numbers, first_index, nearest_index};
 
+use docsis_wire::SEQUENCE_MODULUS;
+
 /// Numbers are modulo this.
-const NUMBERS: u64 = 8192;
+const NUMBERS: u64 = SEQUENCE_MODULUS as u64;
 
 /// The index of a flow's first segment. It lies one round of numbers above 0, so that those which
 /// lie before it have an index too.

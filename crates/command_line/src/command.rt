@@ -25,6 +25,7 @@ use crate::losses::{asked_rule, asked_rule_alone};
 use clap::ArgMatches;
 use clap::error::ErrorKind;
 use docsis_wire::{FillByte, SEQUENCE_MODULUS};
+use flow_records::FLOWS_MAX;
 use flow_selection::Selection;
 use loss_rule::LossRule;
 use std::alloc::{AllocError, Global};
@@ -123,7 +124,7 @@ const FIRST_MAX: u32 = SEQUENCE_MODULUS as u32 - 1;
 const CAPACITY_MAX: u16 = 65_535;
 
 /// The greatest index of a flow of a trace that is replayed.
-const LAST_REPLAYED: u16 = 63;
+const LAST_REPLAYED: u16 = FLOWS_MAX as u16 - 1;
 /// And so of a trace that is followed.
 const LAST_FOLLOWED: u16 = 16_383;
 

@@ -13,7 +13,7 @@ use crate::device::Device;
 use crate::fault::{EngineFault, WriteFault};
 use crate::flushed_reads::ReadBehind;
 use crate::text_writer::{TextWriter, held_room};
-use crate::transfer::{read_behind, zeros};
+use crate::transfer::{PIECE_BYTES, read_behind, zeros};
 use ended::EndedTrace;
 use followed_traces::FollowInput;
 use loss_rule::LossRule;
@@ -24,9 +24,6 @@ use text_lines::{LineReader, PutText, split_behind_line};
 use texts::FollowSettings;
 
 mod ended;
-
-/// How many bytes are asked of the reader at once.
-const PIECE_BYTES: usize = 262_144;
 
 /// The lines so far of a trace that is followed.
 #[derive(Drop)]

@@ -49,4 +49,4 @@ pub use join::join_text;
 pub use lines_read::read_lines;
 pub use replay::{replay_text, replay_text_by, replay_text_of, write_report};
 pub use text_writer::{TextWriter, held_room};
-pub use transfer::{INPUT_MAX, read_behind, read_some, write_text, zeros};
+pub use transfer::{INPUT_MAX, PIECE_BYTES, read_behind, read_some, write_text, zeros};

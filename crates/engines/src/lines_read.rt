@@ -7,13 +7,10 @@ ghost use Rattle.engines.specs.LinesRead.{HasReadLines, HasLinesCause};
 
 use crate::device::Device;
 use crate::fault::EngineFault;
-use crate::transfer::{read_piece, zeros};
+use crate::transfer::{PIECE_BYTES, read_piece, zeros};
 use std::alloc::Global;
 use std::io::Read;
 use text_lines::{LineInput, TakeLine};
-
-/// How many bytes are asked of the reader at once.
-const PIECE_BYTES: usize = 262_144;
 
 /// Reads all that a reader gives, if it is at most 268,435,456 bytes, and answers what is made of
 /// its lines. No more of the input than a piece and a line is held. It is read to its end also

@@ -17,6 +17,9 @@ use std::io::{Read, Write};
 /// The longest input that an engine reads, in bytes.
 pub const INPUT_MAX: usize = 268_435_456;
 
+/// How many bytes are asked of a reader at once.
+pub const PIECE_BYTES: usize = 262_144;
+
 /// Room for a read.
 pub fn zeros(alloc: Global, count: usize) -> Result<Vec<u8>, AllocError>
     ensures { IfOk result (λ room. vec_len room ≡ count) }

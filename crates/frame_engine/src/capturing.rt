@@ -14,12 +14,9 @@ use crate::comparing::Comparing;
 use crate::frame_reading::FrameReading;
 use crate::progress::{TakeProgress, tell_progress};
 use crate::tally::CaptureTally;
-use engines::{Device, EngineFault, ReadBehind, read_behind, zeros};
+use engines::{Device, EngineFault, PIECE_BYTES, ReadBehind, read_behind, zeros};
 use std::alloc::Global;
 use std::io::Write;
-
-/// How many bytes are asked of the reader at once.
-const PIECE_BYTES: usize = 262_144;
 
 /// Reads a capture, pcap or pcapng, to its end, and writes the pcap file of the frames of its
 /// bursts, each with the time and the origin of the burst that completed it. The header is written

@@ -4,13 +4,11 @@ ghost use Rattle.docsis_wire.specs.Checks.{ends_with_its_sequence};
 ghost use Rattle.capture.specs.SeenCapture.{capture_parts};
 ghost use Rattle.frame_engine.specs.Records.{IsBurstOf, burst_in, greatest_sid};
 
-use capture::{Burst, CaptureRecord, Passed, read_burst};
+use capture::{Burst, CaptureRecord, Passed, XRA, read_burst};
 use capture_summary::PassedReason;
 use captured_flows::CapturedBurst;
 use docsis_wire::{Bytes, segment_check};
 
-/// The link type of an XRA analyser's packets.
-const XRA: u32 = 273;
 /// The greatest service identifier of 16 bits, which no map has.
 const GREATEST_SID: u32 = 65_535;
 

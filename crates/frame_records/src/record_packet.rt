@@ -4,10 +4,7 @@ ghost use Rattle.capture.specs.Packet.{Parts, IsPacket};
 ghost use Rattle.capture.specs.SeenCapture.{capture_parts};
 ghost use Rattle.frame_records.specs.Recorded.{HoldsPacket, HasPacket};
 
-use capture::{CaptureRecord, Packet, read_packet};
-
-/// The link type of an XRA analyser's packets.
-const XRA: u32 = 273;
+use capture::{CaptureRecord, Packet, XRA, read_packet};
 
 /// The packet that a record holds the whole of.
 pub(crate) fn packet_in(given: &CaptureRecord) -> Option<Packet<'_>>

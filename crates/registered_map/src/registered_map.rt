@@ -14,14 +14,10 @@ use crate::remarks::Remarks;
 use crate::sids::Sids;
 use crate::telling::{RegisteredChannel, RegisteredSid, Remark, RemarkKind, Telling};
 use crate::told::told_in;
-use capture_map::{MOST_CHANNELS, MOST_FLOWS};
+use capture_map::{MOST_CHANNELS, MOST_FLOWS, SID_MAX};
+use flow_records::CLUSTERS_MAX;
 use registrations::{Action, ChannelSid, Told, WholeMessage};
 use std::alloc::{AllocError, Global};
-
-/// A flow may have so many SID clusters.
-const MOST_CLUSTERS: u8 = 8;
-/// The greatest SID.
-const SID_MAX: u16 = 16_383;
 
 /// The map that messages give. Contracts see by `registered_in` what was registered.
 #[derive(Debug, Drop)]
@@ -36,7 +32,7 @@ pub struct RegisteredMap {
 fn can_say(told: ChannelSid, channel: usize, flow: usize) -> bool
     ensures { result ≡ can_say told channel flow }
 {
-    told.cluster < MOST_CLUSTERS
+    told.cluster < CLUSTERS_MAX
         && told.sid <= SID_MAX
         && channel < MOST_CHANNELS
         && flow < MOST_FLOWS

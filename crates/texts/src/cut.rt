@@ -14,15 +14,14 @@ ghost use Rattle.texts.specs.Cut.{segment_line, cut_text_length};
 
 mod line;
 
-use docsis_wire::{Bytes, Cutter, FillByte, NoCheck, Piece, SegmentParts, write_segment};
+use docsis_wire::{
+    Bytes, Cutter, FillByte, HEADER_BYTES, NoCheck, Piece, SegmentParts, write_segment,
+};
 use line::{CutLine, read_cut_line};
 use std::alloc::{AllocError, Global};
 use text_lines::{
     LineFault, ParseFault, PutText, TakeLine, TextBuffer, TextFault, put_hex, take_lines,
 };
-
-/// How many bytes of a segment its header takes.
-const HEADER_BYTES: usize = 8;
 
 /// The frames and the pieces of the lines so far of an input of `cut`, each in their order.
 #[derive(Drop)]
