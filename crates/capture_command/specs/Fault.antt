@@ -1,5 +1,7 @@
--- The exit status of a fault.
-use Rattle.std.specs.Prelude.{ℕ}
+-- The lines and the exit statuses of faults.
+use Rattle.std.specs.Prelude.{ℕ, List, [], ◌∷◌, ◌++◌, codes}
+use Rattle.std.specs.Fmt.{decimal}
+use Rattle.capture_map.specs.Fault.{kind_text}
 use Rattle.command_line.specs.declared.command.UsageFault.{UsageFault}
 use Rattle.capture_map.specs.declared.fault.MapFault.{MapFault}
 use Rattle.capture_map.specs.declared.fault.MapFault.TheVariants as map
@@ -27,6 +29,22 @@ abbrev pub setup_fault : SetupError → CaptureCommandFault
 setup_fault setup.OutOfMemory = Engine OutOfMemory
 setup_fault _ = Setup
 
+-- what follows the program's name in a fault's line
+abbrev pub fault_text : CaptureCommandFault → List ℕ
+fault_text (Map (map.Line number kind)) = codes "map: line " ++ decimal number ++ codes ": " ++ kind_text kind
+fault_text (Map map.OutOfMemory) = codes "out of memory"
+fault_text Setup = codes "the map cannot be used"
+fault_text MapFile = codes "the map cannot be read"
+fault_text OutputFile = codes "a file cannot be written"
+fault_text Differs = codes "the frames differ from the analyser's"
+fault_text Uncompared = codes "no frame was compared"
+fault_text (Engine fault) = engines.fault_text fault
+
+-- a fault's line, with its line feed
+abbrev pub fault_line : CaptureCommandFault → List ℕ
+fault_line fault = codes "segrx: " ++ fault_text fault ++ 10 ∷ []
+
+-- the exit status of a fault
 abbrev pub status_of : CaptureCommandFault → ℕ
 status_of (Map fault) = 1
 status_of Setup = 1

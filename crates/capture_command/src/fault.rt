@@ -1,9 +1,14 @@
 //! Why a capture isn't read to its end.
-ghost use Rattle.std.specs.Prelude.{◌≡◌};
+ghost use Rattle.std.specs.Prelude.{◌≡◌, true, OnOk, OnErr};
+ghost use Rattle.std.specs.Io.KnownBytes.{Appends};
+ghost use Rattle.engines.specs.Device.{inner_of, has_failed, is_flushed};
+ghost use Rattle.engines.specs.Transfer.{AppendsFront};
 ghost use Rattle.capture_command.specs.Fault.{status_of, engine_fault, words_fault, map_fault};
-ghost use Rattle.capture_command.specs.Fault.{setup_fault};
+ghost use Rattle.capture_command.specs.Fault.{setup_fault, fault_line};
+ghost use Rattle.capture_command.specs.declared.fault.CaptureCommandFault.TheVariants as command_fault;
 
-use capture_map::MapFault;
+use arrayvec::ArrayString;
+use capture_map::{MapFault, MapKind};
 use command_line::UsageFault;
 use engines::{Device, EngineFault, WriteFault, status, write_fault, write_text};
 use receiver::SetupError;
@@ -103,15 +108,18 @@ impl CaptureCommandFault {
     }
 
     /// Writes the line that reports it.
-    pub fn report<E: Write>(&self, err: &mut Device<E>) -> Result<(), WriteFault> {
+    pub fn report<E: Write>(&self, err: &mut Device<E>) -> Result<(), WriteFault>
+        ensures written { OnOk result (Appends (E.contents (inner_of err.old))
+            (E.contents (inner_of err.new)) (fault_line self.now)) }
+        ensures flushed { OnOk result (is_flushed err.new ≡ true) }
+        ensures sound { OnOk result (has_failed err.new ≡ has_failed err.old) }
+        ensures front { OnErr result (AppendsFront (E.contents (inner_of err.old))
+            (E.contents (inner_of err.new)) (fault_line self.now)) }
+        ensures failed { OnErr result (has_failed err.new ≡ true) }
+    {
         match self {
             CaptureCommandFault::Map(MapFault::Line { line, kind }) => {
-                let mut number = itoa::Buffer::new();
-                write_text(err, b"segrx: map: line ".as_slice())?;
-                write_text(err, number.format(*line).as_bytes())?;
-                write_text(err, b": ".as_slice())?;
-                write_text(err, kind.text().as_bytes())?;
-                write_text(err, b"\n".as_slice())
+                write_text(err, map_line(*line, *kind).as_str().as_bytes())
             }
             CaptureCommandFault::Map(MapFault::OutOfMemory) => {
                 write_fault(&EngineFault::OutOfMemory, err)
@@ -135,4 +143,18 @@ impl CaptureCommandFault {
             CaptureCommandFault::Engine(fault) => write_fault(fault, err),
         }
     }
+}
+
+/// The line that reports a fault of this line of the map, with its line feed: at most 62 bytes.
+fn map_line(number: u64, kind: MapKind) -> ArrayString<64>
+    ensures { result.bytes ≡ fault_line (command_fault.Map (MapFault.Line number kind)) }
+{
+    let mut buffer = itoa::Buffer::new();
+    let mut line = ArrayString::new();
+    line.push_str("segrx: map: line ");
+    line.push_str(buffer.format(number));
+    line.push_str(": ");
+    line.push_str(kind.text());
+    line.push_str("\n");
+    line
 }
