@@ -70,7 +70,7 @@ def with_other(thing, **fields):
 
 
 def copied(outcome):
-    """A flow that stands as this one does, and goes on by itself."""
+    """The outcome of a flow that stands as this one does, and goes on by itself."""
     flow = outcome.flow
     own = with_other(flow, kept=dict(flow.kept), declared=set(flow.declared), lasts=dict(flow.lasts))
     return with_other(outcome, flow=own, verdicts=dict(outcome.verdicts), gaps=list(outcome.gaps))

@@ -161,8 +161,8 @@ class RuledFlow(Flow):
         return self.arrive(segment)
 
     def passed_to(self):
-        """The first index that can still come: on some channel of the flow the last segment doesn't
-        lie after it."""
+        """The index before which all channels of the flow have passed: the least of their last
+        indexes, or the expected one, where that isn't less or some channel has none."""
         return self.expected if None in self.lasts.values() else max(min(self.lasts.values()), self.expected)
 
     def lose_before(self, end):
