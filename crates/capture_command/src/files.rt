@@ -1,5 +1,5 @@
 //! The files of `capture`.
-ghost use Rattle.std.specs.Prelude.{List, ℕ, IfOk};
+ghost use Rattle.std.specs.Prelude.{◌≡◌, List, ℕ, IfOk, IfErr};
 ghost use Rattle.engines.specs.Device.{inner_of};
 ghost use Rattle.capture_command.specs.Program.{AreAllOf, IsMapOfFile};
 
@@ -63,7 +63,9 @@ pub fn map_of_file<F: Files>(
 }
 
 /// A file that is made anew, to be written.
-pub fn created<F: Files>(rt: &F, path: &str) -> Result<F::File, CaptureCommandFault> {
+pub fn created<F: Files>(rt: &F, path: &str) -> Result<F::File, CaptureCommandFault>
+    ensures fault { IfErr result (λ fault. fault ≡ CaptureCommandFault.OutputFile) }
+{
     match fs::create(rt, path) {
         Ok(file) => Ok(file),
         Err(_) => Err(CaptureCommandFault::OutputFile),
