@@ -6,8 +6,10 @@ ghost use Rattle.capture_map.specs.declared.map.MapFlow.{MapFlow};
 ghost use Rattle.capture_map.specs.declared.map.MapSid.{MapSid};
 ghost use Rattle.capture_map.specs.declared.map.MapChannel.{MapChannel};
 
-use crate::map::{MOST_CHANNELS, MOST_FLOWS, MapChannel, MapFlow, MapSid, SID_MAX};
+use crate::map::{MOST_FLOWS, MapChannel, MapFlow, MapSid, SID_MAX};
 use docsis_wire::SEQUENCE_MODULUS;
+use flow_records::{CLUSTERS_MAX, WINDOW_MAX};
+use lane::MOST_CHANNELS;
 use text_lines::{read_number, read_number_in};
 
 /// The greatest number of a channel.
@@ -42,8 +44,8 @@ pub(crate) fn flow_said(
     Some(MapFlow {
         sfid: read_number(sfid, u32::MAX)?,
         first: first_said(first)?,
-        window: read_number_in(window, 1, 4096)? as u16,
-        clusters: read_number_in(clusters, 1, 8)? as u8,
+        window: read_number_in(window, 1, u32::from(WINDOW_MAX))? as u16,
+        clusters: read_number_in(clusters, 1, u32::from(CLUSTERS_MAX))? as u8,
     })
 }
 

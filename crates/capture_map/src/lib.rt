@@ -24,5 +24,6 @@ mod map;
 mod reading;
 
 pub use fault::{MapFault, MapKind};
-pub use map::{CaptureMap, MOST_CHANNELS, MOST_FLOWS, MapChannel, MapFlow, MapSid, SID_MAX};
+pub use lane::MOST_CHANNELS;
+pub use map::{CaptureMap, MOST_FLOWS, MapChannel, MapFlow, MapSid, SID_MAX};
 pub use reading::read_map;

@@ -1,11 +1,11 @@
 //! What a map says.
 
-/// A map may have so many channels.
-pub const MOST_CHANNELS: usize = 16;
+use lane::SIDS;
+
 /// A map may have so many flows.
-pub const MOST_FLOWS: usize = 16_384;
+pub const MOST_FLOWS: usize = flow_records::MOST_FLOWS as usize;
 /// The greatest service identifier.
-pub const SID_MAX: u16 = 16_383;
+pub const SID_MAX: u16 = SIDS as u16 - 1;
 
 /// A flow. Its index is its place among the flows.
 #[derive(Clone, Copy, Debug, PartialEq, Eq)]

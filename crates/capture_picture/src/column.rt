@@ -7,9 +7,10 @@ ghost use Rattle.capture_picture.specs.Columns.{pair_at, halved};
 
 use crate::marks::Marks;
 use crate::span::{Span, both_spans};
+use lane::MOST_CHANNELS;
 
 /// So many channels there are at most.
-pub(crate) const CHANNELS: usize = 16;
+pub(crate) const CHANNELS: usize = MOST_CHANNELS;
 
 /// So many columns a flow's picture has.
 pub(crate) const COLUMNS: usize = 256;

@@ -5,11 +5,7 @@ ghost use Rattle.captured_flows.specs.Sound.{granted_to, IsSound, IsUnsound};
 use crate::sound_burst::SoundBurst;
 use capture_rules::Arrival;
 use docsis_wire::{Bytes, Segment};
-
-/// A grant has at most so many bytes.
-const GRANT_MAX: u32 = 65_535;
-/// And at least so many: those of a segment header.
-const GRANT_MIN: u32 = 8;
+use lane::{GRANT_MAX, GRANT_MIN};
 
 /// A burst of a capture that is said to have a segment header.
 #[derive(Debug, Drop)]

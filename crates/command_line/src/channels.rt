@@ -4,12 +4,13 @@ ghost use Rattle.text_lines.specs.Number.{IsNumberIn};
 ghost use Rattle.command_line.specs.Channels.{channels_max, AskForChannels};
 
 use crate::option_words::only_value;
+use lane::MOST_CHANNELS;
 use std::convert::AsStr;
 use text_lines::read_number_in;
 
 /// The greatest number of channels of a trace that is followed, and how many it may have where none
 /// is asked for.
-pub const CHANNELS_MAX: u8 = 16;
+pub const CHANNELS_MAX: u8 = MOST_CHANNELS as u8;
 
 /// The number of channels that a value says, from 1 to 16.
 fn read_channels(value: &str) -> Option<u8>

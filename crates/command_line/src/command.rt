@@ -25,7 +25,7 @@ use crate::losses::{asked_rule, asked_rule_alone};
 use clap::ArgMatches;
 use clap::error::ErrorKind;
 use docsis_wire::{FillByte, SEQUENCE_MODULUS};
-use flow_records::FLOWS_MAX;
+use flow_records::{FLOWS_MAX, MOST_FLOWS};
 use flow_selection::Selection;
 use loss_rule::LossRule;
 use std::alloc::{AllocError, Global};
@@ -126,7 +126,7 @@ const CAPACITY_MAX: u16 = 65_535;
 /// The greatest index of a flow of a trace that is replayed.
 const LAST_REPLAYED: u16 = FLOWS_MAX as u16 - 1;
 /// And so of a trace that is followed.
-const LAST_FOLLOWED: u16 = 16_383;
+const LAST_FOLLOWED: u16 = MOST_FLOWS - 1;
 
 /// Whether the words are the program's name and this command's word.
 fn is_command_alone<S: AsStr>(words: &[S], command: &str) -> bool

@@ -8,13 +8,14 @@ ghost use Rattle.command_line.specs.Inside.Flows.{AddsRange};
 
 use crate::command::UsageFault;
 use crate::option_words::only_value;
+use flow_records::MOST_FLOWS;
 use flow_selection::{FlowList, FlowRange, Selection, Shard};
 use std::alloc::Global;
 use std::convert::AsStr;
 use text_lines::read_number;
 
-/// How many shards there are at most.
-const SHARDS_MAX: u16 = 16_384;
+/// How many shards there are at most: one for each flow.
+const SHARDS_MAX: u16 = MOST_FLOWS;
 
 /// A number of a shard's value, which is no greater than how many shards there may be.
 fn read_shard_number(text: &str) -> Option<u32>

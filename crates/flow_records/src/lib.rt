@@ -15,6 +15,6 @@ mod record;
 pub use decision::Decision;
 pub use event::Event;
 pub use record::{
-    CLUSTERS_MAX, FLOWS_MAX, FlowRecord, SetupFault, WINDOW_MAX, check_many_records, check_records,
-    check_records_within,
+    CLUSTERS_MAX, FLOWS_MAX, FlowRecord, MOST_FLOWS, SetupFault, WINDOW_MAX, check_many_records,
+    check_records, check_records_within,
 };

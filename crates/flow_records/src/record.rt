@@ -15,6 +15,9 @@ use thiserror::Error;
 /// How many flows there may be.
 pub const FLOWS_MAX: usize = 64;
 
+/// The greatest number of flows for which a receiver can be made.
+pub const MOST_FLOWS: u16 = 16_384;
+
 /// The greatest width of a flow's window.
 pub const WINDOW_MAX: u16 = WIDTH_MAX;
 

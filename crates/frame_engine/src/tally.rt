@@ -14,14 +14,14 @@ use docsis_wire::Bytes;
 use engines::{Device, EngineFault, write_text};
 use flow_core::FlowCounts;
 use flow_selection::Selection;
-use lane::{Refusal, Request};
+use lane::{MOST_CHANNELS, Refusal, Request};
 use receiver::Reply;
 use std::alloc::{AllocError, Global};
 use std::io::Write;
 use timed_frames::{LastBurst, TimedStep};
 
 /// A receiver has so many channels.
-const CHANNELS: u8 = 16;
+const CHANNELS: u8 = MOST_CHANNELS as u8;
 
 /// What is counted of a capture, and its requests as CSV.
 #[derive(Drop)]

@@ -2,7 +2,7 @@
 ghost use Rattle.std.specs.Prelude.{◌≡◌};
 ghost use Rattle.frame_records.specs.Frames.{file_header, link_type};
 
-use capture::{Endian, PcapHeader, Resolution};
+use capture::{Endian, PcapHeader, Resolution, XRA};
 
 /// What a record with a frame holds.
 #[derive(Clone, Copy, Debug, PartialEq, Eq)]
@@ -20,7 +20,7 @@ impl FrameLink {
     {
         match self {
             FrameLink::Docsis => 143,
-            FrameLink::Xra => 273,
+            FrameLink::Xra => XRA,
         }
     }
 

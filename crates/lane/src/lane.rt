@@ -23,9 +23,9 @@ use std::alloc::{AllocError, Global};
 use std::collections::HashMap;
 
 /// The fewest bytes of a grant: those of a segment header.
-const GRANT_MIN: u32 = 8;
+pub const GRANT_MIN: u32 = 8;
 /// The most bytes of a grant.
-const GRANT_MAX: u32 = 65_535;
+pub const GRANT_MAX: u32 = 65_535;
 /// How many grants of a channel may be outstanding.
 const OUTSTANDING_MAX: usize = 65_536;
 

@@ -29,7 +29,7 @@ mod sids;
 
 pub use admitted::{Admitted, Request};
 pub use input::Input;
-pub use lane::Lane;
+pub use lane::{GRANT_MAX, GRANT_MIN, Lane};
 pub use refusal::Refusal;
 pub use report::{Answer, LaneReport, admitted_segment};
 pub use sids::{

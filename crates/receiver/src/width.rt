@@ -4,11 +4,9 @@ ghost use Rattle.flow_records.specs.Limits.{most_flows};
 ghost use Rattle.lane.specs.Limits.{most_channels};
 ghost use Rattle.receiver.specs.Widths.{IsWidthFault};
 
+use flow_records::MOST_FLOWS;
 use lane::MOST_CHANNELS;
 use thiserror::Error;
-
-/// The greatest number of flows for which a receiver can be made.
-pub const MOST_FLOWS: u16 = 16384;
 
 /// How many channels and flows a receiver is made for: the number of upstream channels of the
 /// modems' transmit channel sets, and that of the flows of all modems.
