@@ -1,6 +1,6 @@
 //! The feeders of all flows, which the assembler of a running receiver drives.
-ghost use Rattle.std.specs.Prelude.{◌≡◌, ◌≤◌, false, [], length, map};
-ghost use Rattle.delivery.specs.Feeders.{feeder_ring, offered, backlog, closed_ring};
+ghost use Rattle.std.specs.Prelude.{◌≡◌, ◌≢◌, ◌≤◌, ◌⊎◌, true, false, [], All, Any, length, map};
+ghost use Rattle.delivery.specs.Feeders.{feeder_ring, offered, backlog, room, closed_ring};
 ghost use Rattle.delivery.specs.Feeders.{closed_offered};
 
 use crate::signals::Signals;
@@ -14,11 +14,13 @@ use std::sync::Wait;
 pub fn flush_all(feeders: &mut [Feeder], told: &EventCount) -> bool
     ensures rings { map feeder_ring feeders.new ≡ map feeder_ring feeders.old }
     ensures offered { map offered feeders.new ≡ map offered feeders.old }
+    ensures flushed { All (λ feeder. (backlog feeder ≡ []) ⊎ (room feeder ≡ 0)) feeders.new }
+    ensures none_left { result ≡ false → All (λ feeder. backlog feeder ≡ []) feeders.new }
+    ensures some_left { result ≡ true → Any (λ feeder. backlog feeder ≢ []) feeders.new }
 {
     let mut are_left = false;
     for feeder in feeders.iter_mut() {
-        let left = flush(feeder, told);
-        are_left = are_left || left;
+        are_left |= flush(feeder, told);
     }
     are_left
 }
@@ -58,7 +60,9 @@ fn empty_backlog<R: Wait>(rt: &R, signals: &Signals, feeder: &mut Feeder)
 fn flush(feeder: &mut Feeder, told: &EventCount) -> bool
     ensures ring { feeder_ring feeder.new ≡ feeder_ring feeder.old }
     ensures offered { offered feeder.new ≡ offered feeder.old }
+    ensures flushed { (backlog feeder.new ≡ []) ⊎ (room feeder.new ≡ 0) }
     ensures none_left { result ≡ false → backlog feeder.new ≡ [] }
+    ensures some_left { result ≡ true → backlog feeder.new ≢ [] }
 {
     if !feeder.has_backlog() {
         return false;
