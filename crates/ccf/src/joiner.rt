@@ -78,6 +78,7 @@ impl Joiner {
     /// exactly the frames that end in each:
     /// `laws::each_segment_completes_the_frames_that_end_in_it`, and with losses before it
     /// `laws::each_segment_completes_the_kept_frames_that_end_in_it`.
+    #[inline(always)]
     pub fn feed<C: HeaderCheck>(
         &mut self,
         alloc: Global,
@@ -106,6 +107,7 @@ impl Joiner {
     /// give its payload, and leave nothing unfinished: `laws::one_frame_is_given_as_it_is`. So
     /// the caller can keep the payload, and no memory is asked for. The check is called no more
     /// often than by `feed`.
+    #[inline(always)]
     pub fn feed_unless_whole<C: HeaderCheck>(
         &mut self,
         alloc: Global,
@@ -165,6 +167,7 @@ impl Joiner {
 }
 
 /// Takes the payload of a segment in which no MAC header begins.
+#[inline(always)]
 fn go_on<C: HeaderCheck>(
     unfinished: &mut Vec<u8>,
     alloc: Global,

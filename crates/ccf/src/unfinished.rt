@@ -37,6 +37,7 @@ pub fn drop_all(unfinished: &mut Vec<u8>) -> usize
 /// Appends what the unfinished frame lacks of the bytes that come next, and answers those that are
 /// left, behind its end. Where the head turns out to be no frame's, only the head's four bytes are
 /// appended.
+#[inline(always)]
 pub fn append_lacking<'a>(unfinished: &mut Vec<u8>, next: &'a [u8]) -> Result<&'a [u8], AllocError>
     ensures appends { IfOk result
         (λ left. Appends unfinished.old.items next.now unfinished.new.items left.now) }

@@ -62,6 +62,7 @@ impl Flow {
 
     /// Takes a segment that arrives, and answers its verdict; all but a kept one come back with it.
     /// The segment is ready. It takes no memory.
+    #[inline(always)]
     pub fn arrive(&mut self, segment: Segment) -> Verdict<Segment>
         requires ready { IsReady segment }
         requires drained { IsDrained self.old }
@@ -160,6 +161,7 @@ impl Flow {
     /// The same, but where nothing is unfinished and the next segment is one whole frame by
     /// itself, the answer is that frame alone: the segment's own payload, which is copied only
     /// out of memory that is much larger. No failed allocation fails such a step.
+    #[inline(always)]
     pub fn advance_as_it_is<C: HeaderCheck>(
         &mut self,
         alloc: Global,
@@ -180,6 +182,7 @@ impl Flow {
 
     /// Joins the next segment, if there is one, unless it is one whole frame by itself and nothing
     /// is unfinished: then nothing changes.
+    #[inline(always)]
     fn join_unless_whole<C: HeaderCheck>(
         &mut self,
         alloc: Global,
@@ -205,6 +208,7 @@ impl Flow {
     }
 
     /// Takes the next segment, which is one whole frame, and answers the frame.
+    #[inline(always)]
     fn give_next(&mut self, alloc: Global) -> Bytes
         requires { (check : List ℕ → Bool) × IsNextOneFrame check self.old }
         ensures { (check : List ℕ → Bool) → IsNextOneFrame check self.old

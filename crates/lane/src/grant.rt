@@ -97,6 +97,7 @@ impl OutstandingGrant {
     }
 
     /// The same of a burst whose own buffer becomes the payload: it takes no memory.
+    #[inline(always)]
     pub fn admit_owned(self, channel: u8, hcs_ok: bool, bytes: Bytes) -> Result<Admitted, Refusal>
         ensures { IsMadeOf channel self hcs_ok bytes result }
     {

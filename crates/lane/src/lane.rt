@@ -152,6 +152,7 @@ impl Lane {
     /// Takes a grant or a burst, as [`Lane::answer`] does, and the burst's own buffer becomes the
     /// payload of its segment: a burst takes no memory. Where an allocation for a grant fails no
     /// refusal applies, nothing changes, and the input is given back, to be taken again.
+    #[inline(always)]
     pub fn take_owned(&mut self, input: Input) -> Result<Answer, Input>
         ensures answered { IfOk result (λ answer. TakesInput self.old input answer self.new) }
         ensures not_memory { IfOk result (λ answer. ¬ (IsOutOfMemory input answer)) }
@@ -218,6 +219,7 @@ impl Lane {
     }
 
     /// Keeps a grant as outstanding.
+    #[inline(always)]
     fn answer_grant(&mut self, number: u32, sid: u16, bytes: u32) -> Result<Answer, AllocError>
         ensures answered { IfOk result
             (λ answer. TakesInput self.old (Input.Grant number sid bytes) answer self.new) }
@@ -270,6 +272,7 @@ impl Lane {
     }
 
     /// Admits or refuses a burst whose own buffer becomes the payload.
+    #[inline(always)]
     fn take_burst(&mut self, number: u32, hcs_ok: bool, bytes: Bytes) -> Answer
         ensures answered { TakesInput self.old (Input.Burst number hcs_ok bytes) result self.new }
         ensures not_memory { ¬ (IsOutOfMemory (Input.Burst number hcs_ok bytes) result) }

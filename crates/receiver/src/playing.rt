@@ -144,6 +144,7 @@ impl<C: HeaderCheck + Drop> Playing<C> {
     }
 
     /// Hands in an input of a channel, and answers whether a segment of it was admitted.
+    #[inline(always)]
     pub fn take_input(
         &mut self,
         alloc: Global,

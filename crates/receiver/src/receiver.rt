@@ -82,6 +82,7 @@ impl<C: HeaderCheck + Drop> Receiver<C> {
 
     /// Takes a grant or a burst that came on this channel. What is admitted of a burst comes to its
     /// flow, and its request and what the flow then gives are given to the consumer.
+    #[inline(always)]
     pub fn take<O: Consumer>(
         &mut self,
         alloc: Global,

@@ -49,6 +49,7 @@ impl<C: HeaderCheck + Drop> Replaying<C> {
 
     /// Hands in an input that came on a channel, 0 to 3. Where an allocation failed nothing is
     /// promised of what is handed in or given afterwards.
+    #[inline(always)]
     pub fn take(&mut self, alloc: Global, channel: u8, input: Input) -> Result<(), AllocError>
         requires replaying { IsReplaying C.accepts self.old }
         requires channel { channel < channel_limit }

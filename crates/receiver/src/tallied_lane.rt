@@ -17,6 +17,7 @@ pub(crate) struct TalliedLane {
 
 impl TalliedLane {
     /// Takes a grant or a burst, as [`Lane::take_owned`] does, and counts the answer.
+    #[inline(always)]
     pub(crate) fn take(&mut self, input: Input) -> Result<Answer, Input>
         ensures answers { IfOk result (λ answer. AnswersMore self.old input answer self.new) }
         ensures given_back { IfErr result (λ back. back ≡ input) }

@@ -33,6 +33,7 @@ impl BondedFlow {
 }
 
 /// Advances a flow until nothing is next, and gives the frames of each step.
+#[inline(always)]
 fn join_all<C: HeaderCheck, O: Consumer>(
     alloc: Global,
     check: &C,
@@ -55,6 +56,7 @@ fn join_all<C: HeaderCheck, O: Consumer>(
 
 /// Joins the next segment of a flow, gives the frames that it completes, and answers whether there
 /// was one. A segment that is one whole frame is given as it is.
+#[inline(always)]
 fn join_next<C: HeaderCheck, O: Consumer>(
     alloc: Global,
     check: &C,

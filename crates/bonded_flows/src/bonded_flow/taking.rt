@@ -69,6 +69,7 @@ impl BondedFlow {
 
     /// Notes that a segment with this number comes on this channel, and skips to the number to
     /// which every channel of the flow has come then. It answers that number.
+    #[inline(always)]
     fn skip_passed(&mut self, channel: usize, number: u16) -> Option<u16>
         requires up_to_date { IsUpToDate self.old }
         requires number { number < sequence_modulus }

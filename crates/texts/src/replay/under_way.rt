@@ -87,6 +87,7 @@ impl TakeEntries for UnderWay {
         })
     }
 
+    #[inline(always)]
     fn take(
         self,
         alloc: Global,

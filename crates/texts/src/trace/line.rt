@@ -63,6 +63,7 @@ pub fn is_setup_word(word: &[u8]) -> bool
 
 /// What a line of a trace for a receiver of this width says by itself, by its first field and what
 /// follows that. Each flow has a ring of this capacity.
+#[inline(always)]
 pub fn read_trace_line(
     alloc: Global,
     width: Width,
@@ -186,6 +187,7 @@ fn read_sid(width: Width, rest: &[u8]) -> Result<TraceLine, LineFault>
 }
 
 /// `grant <channel> <number> <sid> <bytes>`, by what follows the first word.
+#[inline(always)]
 fn read_grant(width: Width, rest: &[u8]) -> Result<TraceLine, LineFault>
     ensures carried { (ring : ℕ)
         → IfOk result (Carries (shape_of width ring) (word_of grant_line ∷ words_of rest.now)) }
@@ -204,6 +206,7 @@ fn read_grant(width: Width, rest: &[u8]) -> Result<TraceLine, LineFault>
 }
 
 /// `burst <channel> <number> ok|bad <hex>`, by what follows the first word.
+#[inline(always)]
 fn read_burst(alloc: Global, width: Width, rest: &[u8]) -> Result<TraceLine, LineFault>
     ensures carried { (ring : ℕ)
         → IfOk result (Carries (shape_of width ring) (word_of burst_line ∷ words_of rest.now)) }

@@ -74,6 +74,7 @@ impl SetupLines {
     }
 
     /// What a line of the trace says by itself, by its first field and what follows that.
+    #[inline(always)]
     pub fn read_line(
         &self,
         alloc: Global,
