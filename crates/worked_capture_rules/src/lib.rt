@@ -7,14 +7,14 @@
 #[cfg(test)]
 mod beginnings;
 #[cfg(test)]
+mod burst_order;
+#[cfg(test)]
 mod failed_allocations;
 #[cfg(test)]
-mod held;
+mod held_segments;
 #[cfg(test)]
 mod many;
 #[cfg(test)]
 mod model;
 #[cfg(test)]
 mod model_cases;
-#[cfg(test)]
-mod order;

@@ -1,8 +1,8 @@
 //! Registrations, byte by byte. What they tell is what tshark 4.0.17 shows of these packets.
 mod failed_allocations;
-mod faults;
 mod found;
 mod joined;
+mod message_faults;
 mod parts;
 
 use registrations::{Action, ChannelSid, Told, UpstreamFlow};

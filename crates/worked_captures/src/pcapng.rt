@@ -1,9 +1,9 @@
 //! Files of the format pcapng, whole and in pieces of every size.
+mod block_faults;
+mod blocks_in_pieces;
 mod failed_allocations;
-mod faults;
-mod files;
 mod hostile;
-mod pieces;
+mod pcapng_files;
 mod units;
 
 use capture::{CaptureRecord, PcapngFault, PcapngReader};

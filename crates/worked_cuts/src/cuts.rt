@@ -1,7 +1,7 @@
 //! Frames cut into segments: worked examples, the definition of a lawful cut tried on them, the
 //! faults, and the greatest sizes.
+mod cut_faults;
 mod failed_allocations;
-mod faults;
 mod lawful;
 mod sizes;
 mod worked;

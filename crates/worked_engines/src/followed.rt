@@ -2,7 +2,7 @@
 ghost use Rattle.std.specs.Prelude.{◌≤◌, length};
 
 use crate::fitful::{FitfulReader, FitfulWriter, Full};
-use crate::pieces::InPieces;
+use crate::inputs_in_pieces::InPieces;
 use engines::{Device, EngineFault, ReadBehind, follow_text};
 use flow_selection::{FlowList, FlowRange, Selection, Shard};
 use loss_rule::LossRule;

@@ -7,22 +7,22 @@
 #![tactic(auto)]
 
 #[cfg(test)]
+mod command_words;
+#[cfg(test)]
 mod devices;
 #[cfg(test)]
-mod failed_allocations;
+mod engine_faults;
 #[cfg(test)]
-mod faults;
+mod failed_allocations;
 #[cfg(test)]
 mod fitful;
 #[cfg(test)]
 mod followed;
 #[cfg(test)]
+mod inputs_in_pieces;
+#[cfg(test)]
 mod limits;
 #[cfg(test)]
 mod long_texts;
 #[cfg(test)]
-mod pieces;
-#[cfg(test)]
 mod running;
-#[cfg(test)]
-mod words;

@@ -3,11 +3,11 @@ ghost use Rattle.std.specs.Prelude.{◌<◌, length, IfOk};
 ghost use Rattle.docsis_wire.specs.Ready.{IsReady};
 ghost use Rattle.flow_core.specs.Flows.{IsDrainedAt};
 
-mod draining;
+mod drained_flows;
 mod failed_allocations;
+mod flow_order;
 mod gaps;
 mod gaps_to;
-mod order;
 mod records;
 mod skips;
 mod verdicts;

@@ -6,7 +6,7 @@
 #![tactic(auto)]
 
 #[cfg(test)]
-mod compared;
+mod compared_frames;
 #[cfg(test)]
 mod failed_allocations;
 #[cfg(test)]

@@ -1,5 +1,5 @@
 //! What people read of a comparison.
-use crate::compared::{Came, compared};
+use crate::compared_frames::{Came, compared};
 use burst_fates::{BurstFate, MissingReason};
 use frame_comparison::Side::{Analyser, Here};
 use frame_comparison::put_comparison;

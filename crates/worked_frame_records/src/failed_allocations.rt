@@ -1,6 +1,6 @@
 //! Tests to be run with the Nth request for memory refused, and then with all later ones refused
 //! too. Each says `refused` when a call was.
-use crate::files::{FRAME, ORIGIN};
+use crate::frame_files::{FRAME, ORIGIN};
 use frame_records::{FrameLink, put_file_header, put_frame};
 use std::test::Fail;
 

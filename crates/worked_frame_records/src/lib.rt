@@ -7,7 +7,7 @@
 #[cfg(test)]
 mod failed_allocations;
 #[cfg(test)]
-mod files;
+mod frame_files;
 #[cfg(test)]
 mod named_bursts;
 #[cfg(test)]

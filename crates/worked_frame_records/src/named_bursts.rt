@@ -1,5 +1,5 @@
 //! The bursts that recorded frames came from.
-use crate::files::{FRAME, ORIGIN, TIME};
+use crate::frame_files::{FRAME, ORIGIN, TIME};
 use crate::recorded::{first_record, record};
 use capture::CaptureRecord;
 use frame_records::{

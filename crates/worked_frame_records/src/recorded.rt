@@ -1,5 +1,5 @@
 //! Frames that an analyser recorded, read from the records of a capture.
-use crate::files::{FRAME, ORIGIN, TIME};
+use crate::frame_files::{FRAME, ORIGIN, TIME};
 use capture::{CaptureFault, CaptureReader, CaptureRecord};
 use frame_records::{FrameLink, RecordedFrame, put_file_header, put_frame, recorded_frame};
 use std::alloc::{AllocError, Global};

@@ -1,13 +1,13 @@
 //! Each allocation of a capture that is joined is refused once: it is reported, what was written
 //! until then is a front of the frames, record for record, and a second call joins the capture.
-use crate::compared::{COMPARES, EQUAL, compare};
-use crate::joined::{InPieces, settings};
-use crate::one_map::{MAP_PATH, ONE_MAP};
-use crate::samples::{
+use crate::capture_samples::{
     FRAMES_APART, REQUESTS_APART, are_frames_apart, frame, frames_apart, frames_joined_twice,
     map_of_two_channels,
 };
-use crate::words::is_path;
+use crate::capture_words::is_path;
+use crate::compared_captures::{COMPARES, EQUAL, compare};
+use crate::joined::{InPieces, settings};
+use crate::one_map::{MAP_PATH, ONE_MAP};
 use capture_command::{CaptureWords, capture_program, read_capture_words};
 use capture_rules::Arrival;
 use captured_flows::{CaptureConsumer, SoundBurst};

@@ -1,5 +1,5 @@
 //! What comes of a capture that is joined.
-use crate::samples::{
+use crate::capture_samples::{
     frames_apart, joined_file, map_of_two_channels, segments_at, still_segments, two_segments,
 };
 use capture_map::CaptureMap;

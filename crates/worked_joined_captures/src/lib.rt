@@ -6,7 +6,11 @@
 #![tactic(auto)]
 
 #[cfg(test)]
-mod compared;
+mod capture_samples;
+#[cfg(test)]
+mod capture_words;
+#[cfg(test)]
+mod compared_captures;
 #[cfg(test)]
 mod failed_allocations;
 #[cfg(test)]
@@ -16,8 +20,4 @@ mod one_map;
 #[cfg(test)]
 mod progress;
 #[cfg(test)]
-mod samples;
-#[cfg(test)]
 mod shards;
-#[cfg(test)]
-mod words;

@@ -1,7 +1,9 @@
 //! How far the reading of a capture is, as it is told on the way.
+use crate::capture_samples::{
+    FRAMES_APART, frame, header, map_of_two_channels, put_burst_of, put_file,
+};
 use crate::joined::{InPieces, settings};
 use crate::one_map::{MAP_PATH, ONE_MAP, OneMap};
-use crate::samples::{FRAMES_APART, frame, header, map_of_two_channels, put_burst_of, put_file};
 use capture_command::capture_program;
 use engines::Device;
 use flow_selection::{FlowList, Selection};

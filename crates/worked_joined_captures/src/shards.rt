@@ -1,7 +1,7 @@
 //! The frames of some flows of a capture: those of the whole, in their order, but those of the
 //! others.
+use crate::capture_samples::{frame_with, header, map_of_flows, put_burst_of, put_file};
 use crate::joined::{Joined, join_by, settings};
-use crate::samples::{frame_with, header, map_of_flows, put_burst_of, put_file};
 use captured_flows::Waits;
 use flow_selection::{FlowList, FlowRange, Selection, Shard};
 use frame_engine::CaptureSettings;

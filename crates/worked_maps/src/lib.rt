@@ -10,4 +10,4 @@ mod mapped_captures;
 #[cfg(test)]
 mod registered;
 #[cfg(test)]
-mod seen;
+mod sids_seen;

@@ -1,10 +1,10 @@
 //! The calls of the crates `texts` and `text_lines` where an allocation fails at one place of each
 //! call. Each test takes out of memory as lawful there, says so by the word `refused`, and calls
 //! again; where nothing failed it says nothing.
-use crate::samples::{
+use crate::taken_lines::TakenLines;
+use crate::text_samples::{
     FRAMES, FRAMES_AND_PIECES, REPORT, RULED_TRACE, SEGMENTS, SLID_REPORT, TRACE,
 };
-use crate::taken_lines::TakenLines;
 use docsis_wire::{Bytes, FillByte};
 use flow_core::FlowCounts;
 use lane::{LaneReport, Request};

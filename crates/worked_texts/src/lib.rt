@@ -38,11 +38,11 @@ mod looked_at_fields;
 mod number_fields;
 #[cfg(test)]
 mod ruled_texts;
-pub mod samples;
 #[cfg(test)]
 mod selected_flows;
 #[cfg(test)]
 mod taken_lines;
+pub mod text_samples;
 #[cfg(test)]
 mod trace_lines;
 #[cfg(test)]

@@ -1,5 +1,5 @@
 //! The text of `replay` by each loss rule.
-use crate::samples::{DECIDED_REPORT, PASSED_REPORT, RULED_TRACE, SLID_REPORT};
+use crate::text_samples::{DECIDED_REPORT, PASSED_REPORT, RULED_TRACE, SLID_REPORT};
 use loss_rule::LossRule;
 use std::test::Fail;
 use texts::{replay_lines, replay_lines_by};

@@ -1,6 +1,6 @@
 //! What whole traces give.
 use crate::flow_lines::below_flows;
-use crate::samples::TRACE;
+use crate::text_samples::TRACE;
 use flow_core::FlowRecord;
 use lane::{Input, SidRow};
 use receiver::{Decision, Lists, Setup};

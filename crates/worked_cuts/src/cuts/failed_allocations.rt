@@ -1,6 +1,6 @@
 //! Tests to be run with the Nth request for memory refused, and the one whose name ends in
 //! `without_memory` with all later ones refused too. Each says `refused` when a call was.
-use super::faults::{FAULTS, Fault, long_and_plain};
+use super::cut_faults::{FAULTS, Fault, long_and_plain};
 use super::worked::{INSIDE_PIECES, INSIDE_SEGMENTS};
 use super::{expect_segment, expect_segments, named, owned};
 use docsis_wire::{Bytes, CutFault, Cutter, FillByte, NoCheck, Piece, Segment, SegmentParts, cut};

@@ -3,7 +3,7 @@
 ghost use Rattle.std.specs.Prelude.{◌≡◌, IfOk, length};
 ghost use Rattle.docsis_wire.specs.Ready.{IsReady};
 
-mod draining;
+mod drains_refused;
 
 use super::expect_drained;
 use docsis_wire::{NoCheck, Segment};

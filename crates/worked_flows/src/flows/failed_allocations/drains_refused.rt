@@ -5,7 +5,7 @@ ghost use Rattle.flow_core.specs.Flows.{IsDrainedAt};
 ghost use Rattle.flow_core.specs.Giving.{IsRunning};
 
 use super::{CUT, FRAMES};
-use crate::flows::draining::{take, two_flows};
+use crate::flows::drained_flows::{take, two_flows};
 use crate::flows::expect_drained;
 use docsis_wire::{Bytes, HeaderCheck, NoCheck};
 use flow_core::{Core, SetupFault};

@@ -1,7 +1,7 @@
 -- Each flow of a new core runs.
 use Rattle.std.proofs.Common.{◌∷◌, [], refl}
 use Rattle.worked_flows.proofs.Running.{new_runs}
-use Rattle.worked_flows.proofs.flows.draining.two_flows.Goals as goal
+use Rattle.worked_flows.proofs.flows.drained_flows.two_flows.Goals as goal
 
 pub returns-clause-running : goal.returns-clause-running
 returns-clause-running g c =

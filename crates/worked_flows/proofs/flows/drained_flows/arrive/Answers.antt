@@ -1,6 +1,6 @@
 -- The flow runs once it was drained.
 use Rattle.worked_flows.proofs.Running.{drain_runs}
-use Rattle.worked_flows.proofs.flows.draining.arrive.Goals as goal
+use Rattle.worked_flows.proofs.flows.drained_flows.arrive.Goals as goal
 
 pub returns-clause-running : goal.returns-clause-running
 returns-clause-running g c =

@@ -1,10 +1,10 @@
 //! Frames beside those that the analyser joined itself.
-use crate::joined::InPieces;
-use crate::one_map::{MAP_PATH, ONE_MAP};
-use crate::samples::{
+use crate::capture_samples::{
     are_frames_apart, frame, frame_with, frames_joined_twice, header, put_file, put_joined,
     put_named, put_numbered,
 };
+use crate::joined::InPieces;
+use crate::one_map::{MAP_PATH, ONE_MAP};
 use capture_command::capture_program;
 use std::alloc::{AllocError, Global};
 use std::test::Fail;
