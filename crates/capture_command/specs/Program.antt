@@ -4,7 +4,7 @@ use Rattle.capture_map.specs.declared.map.CaptureMap.{CaptureMap}
 use Rattle.capture_map.specs.Reading.{IsMap}
 use Rattle.engines.specs.declared.device.Device.{Device}
 use Rattle.engines.specs.declared.fault.EngineFault.{EngineFault}
-use Rattle.engines.specs.Device.{inner_of, IsFresh}
+use Rattle.engines.specs.Device.{inner_of, has_failed, is_flushed, IsFresh}
 use Rattle.frame_engine.specs.declared.settings.CaptureSettings.{CaptureSettings}
 use Rattle.frame_engine.specs.Joining.{JoinsCapture, IsFileSoFar}
 use Rattle.capture_command.specs.declared.fault.CaptureCommandFault.{CaptureCommandFault}
@@ -16,13 +16,22 @@ use Rattle.engines.specs.Transfer.{AppendsFront}
 use Rattle.frame_engine.specs.Judged.{HasTheAnalysersFrames}
 use Rattle.std.specs.Io.KnownBytes.{Appends}
 use Rattle.command_line.specs.declared.command.UsageFault.{UsageFault}
-use Rattle.capture_command.specs.Fault.{status_of, words_fault}
+use Rattle.capture_command.specs.Fault.{status_of, words_fault, fault_line}
+use Rattle.capture_command.specs.Progress.{SaysAsked}
 use Rattle.capture_command.specs.Asked.{AskForSettings, AskToCompare, AskForHelp}
 
 -- 0 where the work was done
 abbrev pub status_of_outcome : Result (Unit {0}) CaptureCommandFault → ℕ
 status_of_outcome (Ok done) = 0
 status_of_outcome (Err fault) = status_of fault
+
+-- the line of a fault that came of the words was written and flushed; or a front of it, where that
+-- failed; and where there is no fault nothing was written
+abbrev pub IsReported : {E : Type 0} → (E → Option (List ℕ)) → Result (Unit {0}) CaptureCommandFault → Device E → Device E → Type 0
+IsReported reported (Ok done) err err' = err' ≡ err
+IsReported reported (Err fault) err err' =
+    (Appends (reported (inner_of err)) (reported (inner_of err')) (fault_line fault) × (is_flushed err' ≡ true))
+    ⊎ (AppendsFront (reported (inner_of err)) (reported (inner_of err')) (fault_line fault) × (has_failed err' ≡ true))
 
 -- what came of the engine is told: its fault, and done only if it was done
 pub record IsTold (joined : Result (Unit {0}) EngineFault) (result : Result (Unit {0}) CaptureCommandFault) : Type 0 where
@@ -93,17 +102,24 @@ module _ {R W File : Type 0} (remaining : R → Option (List ℕ)) (contents : W
       ((settings : CaptureSettings) × (compares : Bool) × AskForSettings words settings × AskToCompare words compares × Captures settings compares reader reader' writer writer' result)
       ⊎ PrintsHelp words reader reader' writer writer' result ⊎ RefusesWords reader reader' writer writer' result
 
-  -- so over fresh devices on these
-  pub record ComesOf (words : List (List ℕ)) (reader : R) (writer : W) (result : Result (Unit {0}) CaptureCommandFault) : Type 0 where
+  -- so over fresh devices on these; and on a third one what was said meanwhile, and then what came
+  -- of it was reported
+  pub record ComesOf {E : Type 0} (reported : E → Option (List ℕ)) (words : List (List ℕ)) (reader : R) (writer : W) (err : E) (result : Result (Unit {0}) CaptureCommandFault) : Type 0 where
     pub input : Device R
     pub input' : Device R
     pub output : Device W
     pub output' : Device W
+    pub errors : Device E
+    pub errors' : Device E
+    pub errors'' : Device E
     pub reads : inner_of input ≡ reader
     pub writes : inner_of output ≡ writer
-    pub fresh : IsFresh input × IsFresh output
+    pub reports : inner_of errors ≡ err
+    pub fresh : IsFresh input × IsFresh output × IsFresh errors
     pub obeyed : Obeys words input input' output output' result
     pub does : DoesAsked words input input' output output' result
+    pub says : SaysAsked remaining reported words input input' errors errors'
+    pub report : IsReported reported result errors' errors''
 
   module _ (after : R → List FlushedRead → R → Type 0) where
     -- **The capture was joined with the map that a file holds, and at each read just the file of

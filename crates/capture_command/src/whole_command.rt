@@ -17,7 +17,7 @@ ghost use Rattle.capture_command.specs.declared.fault.CaptureCommandFault.TheVar
 ghost use Rattle.frame_comparison.specs.Seen.{have_none_alone};
 ghost use Rattle.capture_command.specs.declared.fault.CaptureCommandFault.{CaptureCommandFault};
 ghost use Rattle.capture_command.specs.Program.{Captures, Obeys, ComesOf, status_of_outcome};
-ghost use Rattle.capture_command.specs.Program.{DoesAsked, ShowsJoined, ShowsCaptured};
+ghost use Rattle.capture_command.specs.Program.{DoesAsked, ShowsJoined, ShowsCaptured, IsReported};
 
 use crate::asked::{AskedFiles, CaptureAsked, CaptureWords, read_capture_words};
 use crate::fault::CaptureCommandFault;
@@ -409,7 +409,8 @@ pub fn obey_words<S: AsStr, F: Files + Clock, R: ReadBehind, W: Write, E: Write>
 /// Answers the exit status of an outcome, and writes the line of its fault, if it has one. That the
 /// line cannot be written changes nothing.
 fn report_outcome<E: Write>(outcome: &Result<(), CaptureCommandFault>, err: &mut Device<E>) -> u8
-    ensures { result ≡ status_of_outcome outcome.now }
+    ensures status { result ≡ status_of_outcome outcome.now }
+    ensures report { IsReported E.contents outcome.now err.old err.new }
 {
     match outcome {
         Ok(()) => 0,
@@ -441,8 +442,8 @@ where
     E: Write + Drop,
     ensures { (outcome : Result (Unit {0}) CaptureCommandFault)
         × (result ≡ status_of_outcome outcome)
-        × ComesOf R.remaining O.contents F.File.remaining
-        (map S.text words.now) reader out outcome }
+        × ComesOf R.remaining O.contents F.File.remaining E.contents
+        (map S.text words.now) reader out err outcome }
 {
     let mut reader = Device::new(reader);
     let mut out = Device::new(out);

@@ -10,7 +10,7 @@ use std::sync::Wait;
 use std::test::Fail;
 use std::thread::Threads;
 use uplink::{NoTap, Taps};
-use worked_texts::samples::{
+use worked_texts::text_samples::{
     FRAMES, FRAMES_AND_PIECES, LOST_REPORT, LOST_TRACE, REPORT, RULED_TRACE, SEGMENTS, SLID_REPORT,
     TRACE,
 };

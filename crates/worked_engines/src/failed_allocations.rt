@@ -19,7 +19,7 @@ use std::sync::Wait;
 use std::test::Fail;
 use std::thread::Threads;
 use texts::{TraceFault, TraceKind};
-use worked_texts::samples::{
+use worked_texts::text_samples::{
     FRAMES, LOST_REPORT, LOST_TRACE, REPORT, RULED_TRACE, SEGMENTS, SLID_REPORT, TRACE,
 };
 

@@ -12,7 +12,7 @@ use std::io;
 use std::io::{ErrorKind, Read, Write};
 use std::test::Fail;
 use texts::{FollowSettings, TraceFault, TraceKind};
-use worked_texts::samples::TRACE;
+use worked_texts::text_samples::TRACE;
 
 /// What is printed of the trace where it may have four channels.
 pub(crate) const FOLLOWED: &str = "\

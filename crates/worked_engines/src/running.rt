@@ -10,7 +10,7 @@ use std::test::Fail;
 use std::thread;
 use std::thread::Threads;
 use uplink::{NoTap, Request, Tap, Taps};
-use worked_texts::samples::{LOST_REPORT, LOST_TRACE};
+use worked_texts::text_samples::{LOST_REPORT, LOST_TRACE};
 
 /// Receives a trace with room for one entry in each mailbox and ring, and writes the report.
 fn run_with_room_for_one<F, Q, T>(
