@@ -25,12 +25,12 @@ abbrev pub status_of_outcome : Result (Unit {0}) CaptureCommandFault → ℕ
 status_of_outcome (Ok done) = 0
 status_of_outcome (Err fault) = status_of fault
 
--- the line of a fault that came of the words was written and flushed; or a front of it, where that
+-- the line of a fault was written and flushed; or a front of it, where that or a write before it
 -- failed; and where there is no fault nothing was written
 abbrev pub IsReported : {E : Type 0} → (E → Option (List ℕ)) → Result (Unit {0}) CaptureCommandFault → Device E → Device E → Type 0
 IsReported reported (Ok done) err err' = err' ≡ err
 IsReported reported (Err fault) err err' =
-    (Appends (reported (inner_of err)) (reported (inner_of err')) (fault_line fault) × (is_flushed err' ≡ true))
+    (Appends (reported (inner_of err)) (reported (inner_of err')) (fault_line fault) × (is_flushed err' ≡ true) × (has_failed err' ≡ has_failed err))
     ⊎ (AppendsFront (reported (inner_of err)) (reported (inner_of err')) (fault_line fault) × (has_failed err' ≡ true))
 
 -- what came of the engine is told: its fault, and done only if it was done
@@ -102,9 +102,9 @@ module _ {R W File : Type 0} (remaining : R → Option (List ℕ)) (contents : W
       ((settings : CaptureSettings) × (compares : Bool) × AskForSettings words settings × AskToCompare words compares × Captures settings compares reader reader' writer writer' result)
       ⊎ PrintsHelp words reader reader' writer writer' result ⊎ RefusesWords reader reader' writer writer' result
 
-  -- so over fresh devices on these; and on a third one what was said meanwhile, and then what came
-  -- of it was reported
-  pub record ComesOf {E : Type 0} (reported : E → Option (List ℕ)) (words : List (List ℕ)) (reader : R) (writer : W) (err : E) (result : Result (Unit {0}) CaptureCommandFault) : Type 0 where
+  -- so over fresh devices on these; and to a fresh one on a third writer it was said how the work
+  -- went, and then its fault was reported
+  pub record ComesOf {E : Type 0} (told : E → Option (List ℕ)) (words : List (List ℕ)) (reader : R) (writer : W) (err : E) (result : Result (Unit {0}) CaptureCommandFault) : Type 0 where
     pub input : Device R
     pub input' : Device R
     pub output : Device W
@@ -114,12 +114,12 @@ module _ {R W File : Type 0} (remaining : R → Option (List ℕ)) (contents : W
     pub errors'' : Device E
     pub reads : inner_of input ≡ reader
     pub writes : inner_of output ≡ writer
-    pub reports : inner_of errors ≡ err
+    pub tells : inner_of errors ≡ err
     pub fresh : IsFresh input × IsFresh output × IsFresh errors
     pub obeyed : Obeys words input input' output output' result
     pub does : DoesAsked words input input' output output' result
-    pub says : SaysAsked remaining reported words input input' errors errors'
-    pub report : IsReported reported result errors' errors''
+    pub says : SaysAsked remaining told words input input' errors errors'
+    pub report : IsReported told result errors' errors''
 
   module _ (after : R → List FlushedRead → R → Type 0) where
     -- **The capture was joined with the map that a file holds, and at each read just the file of

@@ -1,6 +1,6 @@
 //! The feeders of all flows, as a consumer.
-ghost use Rattle.std.specs.Prelude.{◌≡◌, [], IsTrue, false, map};
-ghost use Rattle.delivery.specs.Feeders.{feeder_ring, offered};
+ghost use Rattle.std.specs.Prelude.{◌≡◌, ◌≢◌, ◌⊎◌, [], All, Any, IsTrue, true, false, map};
+ghost use Rattle.delivery.specs.Feeders.{feeder_ring, offered, backlog, room};
 ghost use Rattle.uplink.specs.Inside.Feeding.{HasOffered, Offers};
 
 use consumer::Consumer;
@@ -30,7 +30,13 @@ impl Feeding<'_> {
     /// Moves what the backlogs hold into the rings for as long as they have room. It says whether
     /// frames are left.
     pub fn flush(&mut self) -> bool
-        ensures { HasOffered self.old [] self.new }
+        ensures offered { HasOffered self.old [] self.new }
+        ensures flushed { All (λ feeder. (backlog feeder ≡ []) ⊎ (room feeder ≡ 0))
+            self.new.feeders.items }
+        ensures none_left { result ≡ false
+            → All (λ feeder. backlog feeder ≡ []) self.new.feeders.items }
+        ensures some_left { result ≡ true
+            → Any (λ feeder. backlog feeder ≢ []) self.new.feeders.items }
     {
         flush_all(&mut self.feeders, self.told)
     }

@@ -5,10 +5,10 @@ ghost use Rattle.flow_core.specs.Flows.{IsDrainedAt};
 
 mod drained_flows;
 mod failed_allocations;
-mod flow_order;
 mod gaps;
 mod gaps_to;
 mod records;
+mod segment_order;
 mod skips;
 mod verdicts;
 mod whole;

@@ -1,5 +1,6 @@
 //! The feeders of all flows, which the assembler of a running receiver drives.
 ghost use Rattle.std.specs.Prelude.{◌≡◌, ◌≢◌, ◌≤◌, ◌⊎◌, true, false, [], All, Any, length, map};
+ghost use Rattle.std.specs.Prelude.{IfSome, slice_get};
 ghost use Rattle.delivery.specs.Feeders.{feeder_ring, offered, backlog, room, closed_ring};
 ghost use Rattle.delivery.specs.Feeders.{closed_offered};
 
@@ -29,6 +30,7 @@ pub fn flush_all(feeders: &mut [Feeder], told: &EventCount) -> bool
 pub fn wait_for_room<R: Wait>(rt: &R, signals: &Signals, feeders: &mut [Feeder], flow: usize)
     ensures rings { map feeder_ring feeders.new ≡ map feeder_ring feeders.old }
     ensures offered { map offered feeders.new ≡ map offered feeders.old }
+    ensures emptied { IfSome (slice_get feeders.new flow) (λ feeder. backlog feeder ≡ []) }
 {
     if flow < feeders.len() {
         empty_backlog(rt, signals, &mut feeders[flow]);

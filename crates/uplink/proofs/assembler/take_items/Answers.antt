@@ -69,8 +69,8 @@ loop-preserved g c =
     let same = c.in-Empty.ensures.takes.taken_is in
     record {
       places_are = search rules;
-      rings = c.flush.ensures.rings ∙ loop.invariant.rings;
-      so_far = nothing-made accepts c.args.taking c.args.feeding.now before old new loop.feeding c.flush.new.self loop.taking same c.flush.ensures loop.invariant.so_far;
+      rings = c.flush.ensures.offered.rings ∙ loop.invariant.rings;
+      so_far = nothing-made accepts c.args.taking c.args.feeding.now before old new loop.feeding c.flush.new.self loop.taking same c.flush.ensures.offered loop.invariant.so_far;
       first = first-stays accepts c.args.taking c.args.feeding.now before old new loop.feeding c.flush.new.self (λ sender. unchanged (old sender) (new sender) (same sender))
-          c.flush.ensures loop.invariant.first;
+          c.flush.ensures.offered loop.invariant.first;
     }
