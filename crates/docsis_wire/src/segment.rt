@@ -158,6 +158,7 @@ impl Segment {
     /// The segment that a burst spells, as [`Segment::read`] answers, of the burst's own buffer: it
     /// becomes the payload, in which no byte is copied or moved, and no memory is taken. A burst
     /// that is no segment is given back, with the reason.
+    #[inline(always)]
     pub fn from_burst(burst: Bytes) -> Result<Segment, RefusedBurst>
         ensures segment { IfOk result (λ segment. segment_bytes segment ≡ burst) }
         ensures ready { IfOk result IsReady }

@@ -12,7 +12,7 @@ use std::alloc::{AllocError, Global};
 use std::collections::BTreeSet;
 use thiserror::Error;
 
-/// How many flows there may be.
+/// How many flows there may be, by the profile of `replay` and `run`.
 pub const FLOWS_MAX: usize = 64;
 
 /// The greatest number of flows for which a receiver can be made.

@@ -17,13 +17,13 @@ use crate::input::Input;
 use crate::refusal::Refusal;
 use crate::report::Answer;
 use crate::sids::{LaneFault, PROFILE_CHANNELS, SidRow, check_rows};
-use docsis_wire::Bytes;
+use docsis_wire::{Bytes, HEADER_BYTES};
 use flow_records::FlowRecord;
 use std::alloc::{AllocError, Global};
 use std::collections::HashMap;
 
 /// The fewest bytes of a grant: those of a segment header.
-pub const GRANT_MIN: u32 = 8;
+pub const GRANT_MIN: u32 = HEADER_BYTES as u32;
 /// The most bytes of a grant.
 pub const GRANT_MAX: u32 = 65_535;
 /// How many grants of a channel may be outstanding.

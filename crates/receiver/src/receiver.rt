@@ -331,6 +331,7 @@ impl<C: HeaderCheck + Drop> Receiver<C> {
 }
 
 /// Makes the flow ready of which this input would be admitted, if one would be.
+#[inline(always)]
 fn make_ready<C: HeaderCheck + Drop, O: Consumer>(
     flows: &mut FlowTable<C>,
     alloc: Global,
@@ -355,6 +356,7 @@ fn make_ready<C: HeaderCheck + Drop, O: Consumer>(
 }
 
 /// Gives the request of what is admitted, and takes its segment.
+#[inline(always)]
 fn take_admitted<C: HeaderCheck + Drop, O: Consumer>(
     flows: &mut FlowTable<C>,
     alloc: Global,

@@ -67,6 +67,7 @@ impl<T> Window<T> {
     /// Takes the item in if its number, 0 to 8191, is less than the width ahead and is not held
     /// yet. Otherwise it answers, looked for in this order, `Late`, `Beyond` or `Repeat`. Only
     /// `Kept` changes anything.
+    #[inline(always)]
     pub fn offer(&mut self, number: u16, item: T) -> Verdict<T>
         requires { number < modulus }
         ensures verdict { IsVerdict self.old number item result }

@@ -37,6 +37,7 @@ pub fn read_hex(alloc: Global, field: &[u8]) -> Result<Vec<u8>, LineFault>
 /// word is in it.
 ///
 /// `FieldCount`: there are more words or none.
+#[inline(always)]
 pub fn read_only_hex(alloc: Global, rest: &[u8]) -> Result<Option<Vec<u8>>, LineFault>
     ensures spelled { IfOk result (λ spelled. (field : List ℕ) × (words_of rest.now ≡ field ∷ [])
         × MatchOption spelled (¬ IsHex field) (λ bytes. SpellsBytes field bytes.items)) }

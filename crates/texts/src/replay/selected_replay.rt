@@ -73,6 +73,7 @@ impl<'a> TakeLine for SelectedReplay<'a> {
     ghost stands_for = { λ given replay. HasReplayedInPart given replay.selected.now
         replay.input.width replay.input.rule replay.input.setup replay.input.taker };
 
+    #[inline(never)]
     fn take_line(&mut self, alloc: Global, field: &[u8], rest: &[u8]) -> Result<(), LineFault> {
         if self.in_part && field == b"burst".as_slice() {
             if let Some((channel, input)) = self.input.input_for(alloc, self.selected, rest)? {

@@ -133,6 +133,7 @@ fn flow_of(width: Width, field: &[u8]) -> Result<usize, LineFault>
 }
 
 /// Whether a burst's check is right, by the word for it.
+#[inline(always)]
 fn read_check(word: &[u8]) -> Result<bool, LineFault>
     ensures check { IfOk result (λ right. IsField check_word word.now (a_check right)) }
     ensures kind { IfErr result (λ fault. fault ≡ LineFault.Kind TraceKind.BadWord) }
