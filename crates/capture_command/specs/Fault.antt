@@ -3,15 +3,15 @@ use Rattle.std.specs.Prelude.{ℕ, List, [], ◌∷◌, ◌++◌, codes}
 use Rattle.std.specs.Fmt.{decimal}
 use Rattle.capture_map.specs.Fault.{kind_text}
 use Rattle.command_line.specs.declared.command.UsageFault.{UsageFault}
-use Rattle.capture_map.specs.declared.fault.MapFault.{MapFault}
-use Rattle.capture_map.specs.declared.fault.MapFault.TheVariants as map
+use Rattle.capture_map.specs.declared.map_fault.MapFault.{MapFault}
+use Rattle.capture_map.specs.declared.map_fault.MapFault.TheVariants as map
 use Rattle.receiver.specs.declared.setup.SetupError.{SetupError}
 use Rattle.receiver.specs.declared.setup.SetupError.TheVariants as setup
 use Rattle.engines.specs.declared.fault.EngineFault.{EngineFault}
 use Rattle.engines.specs.declared.fault.EngineFault.TheVariants.{OutOfMemory}
 use Rattle.engines.specs.Fault as engines
-use Rattle.capture_command.specs.declared.fault.CaptureCommandFault.{CaptureCommandFault}
-use Rattle.capture_command.specs.declared.fault.CaptureCommandFault.TheVariants.{Map, Setup, MapFile, OutputFile, Differs, Uncompared, Engine}
+use Rattle.capture_command.specs.declared.command_fault.CaptureCommandFault.{CaptureCommandFault}
+use Rattle.capture_command.specs.declared.command_fault.CaptureCommandFault.TheVariants.{Map, Setup, MapFile, OutputFile, Differs, Uncompared, Engine}
 
 -- what is reported of a fault of the engine, of words, of a map, and of what a map sets up; that
 -- memory ran out is told in one way

@@ -7,8 +7,8 @@ use Rattle.engines.specs.declared.fault.EngineFault.{EngineFault}
 use Rattle.engines.specs.Device.{inner_of, has_failed, is_flushed, IsFresh}
 use Rattle.frame_engine.specs.declared.settings.CaptureSettings.{CaptureSettings}
 use Rattle.frame_engine.specs.Joining.{JoinsCapture, IsFileSoFar}
-use Rattle.capture_command.specs.declared.fault.CaptureCommandFault.{CaptureCommandFault}
-use Rattle.capture_command.specs.declared.fault.CaptureCommandFault.TheVariants.{Engine}
+use Rattle.capture_command.specs.declared.command_fault.CaptureCommandFault.{CaptureCommandFault}
+use Rattle.capture_command.specs.declared.command_fault.CaptureCommandFault.TheVariants.{Engine}
 use Rattle.engines.specs.declared.fault.EngineFault.TheVariants.{Write}
 use Rattle.engines.specs.Engine.{WritesText}
 use Rattle.engines.specs.FlushedReads.{FlushedRead, ReadsBehindText}

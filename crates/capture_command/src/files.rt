@@ -3,7 +3,7 @@ ghost use Rattle.std.specs.Prelude.{◌≡◌, List, ℕ, IfOk, IfErr};
 ghost use Rattle.engines.specs.Device.{inner_of};
 ghost use Rattle.capture_command.specs.Program.{AreAllOf, IsMapOfFile};
 
-use crate::fault::CaptureCommandFault;
+use crate::command_fault::CaptureCommandFault;
 use capture_map::{CaptureMap, read_map};
 use engines::{Device, read_some, zeros};
 use std::alloc::Global;

@@ -3,11 +3,11 @@
 
 mod arguments;
 mod asked;
-mod fault;
+mod command_fault;
 mod files;
 mod progress_lines;
 mod whole_command;
 
 pub use asked::{CaptureAsked, CaptureWords, asks_to_capture, read_capture_words};
-pub use fault::CaptureCommandFault;
+pub use command_fault::CaptureCommandFault;
 pub use whole_command::{capture_program, obey_words};

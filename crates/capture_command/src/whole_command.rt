@@ -12,15 +12,15 @@ ghost use Rattle.capture_command.specs.Progress.{SaysSummary, SaysProgress, Says
 ghost use Rattle.frame_engine.specs.Begun.{ComparesNothing};
 ghost use Rattle.frame_engine.specs.Judged.{EndsEqual};
 ghost use Rattle.engines.specs.declared.fault.EngineFault.TheVariants.{Write};
-ghost use Rattle.capture_command.specs.declared.fault.CaptureCommandFault.TheVariants.{Differs};
-ghost use Rattle.capture_command.specs.declared.fault.CaptureCommandFault.TheVariants.{Engine};
+ghost use Rattle.capture_command.specs.declared.command_fault.CaptureCommandFault.TheVariants.{Differs};
+ghost use Rattle.capture_command.specs.declared.command_fault.CaptureCommandFault.TheVariants.{Engine};
 ghost use Rattle.frame_comparison.specs.Seen.{have_none_alone};
-ghost use Rattle.capture_command.specs.declared.fault.CaptureCommandFault.{CaptureCommandFault};
+ghost use Rattle.capture_command.specs.declared.command_fault.CaptureCommandFault.{CaptureCommandFault};
 ghost use Rattle.capture_command.specs.Program.{Captures, Obeys, ComesOf, status_of_outcome};
 ghost use Rattle.capture_command.specs.Program.{DoesAsked, ShowsJoined, ShowsCaptured, IsReported};
 
 use crate::asked::{AskedFiles, CaptureAsked, CaptureWords, read_capture_words};
-use crate::fault::CaptureCommandFault;
+use crate::command_fault::CaptureCommandFault;
 use crate::files::{created, map_of_file};
 use crate::progress_lines::ProgressLines;
 use capture_json::summary_json;

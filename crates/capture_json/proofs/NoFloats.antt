@@ -11,7 +11,7 @@ use Rattle.capture_summary.specs.declared.summary.CaptureSummary.{CaptureSummary
 use Rattle.capture_summary.specs.Counting.{selected_flows}
 use Rattle.burst_fates.specs.declared.missing_reason.MissingReason.{MissingReason}
 use Rattle.burst_fates.specs.Words.{burst_in}
-use Rattle.frame_comparison.specs.declared.counts.ComparedCounts.{ComparedCounts}
+use Rattle.frame_comparison.specs.declared.compared_counts.ComparedCounts.{ComparedCounts}
 use Rattle.frame_comparison.specs.Frames.{ShownFrame}
 use Rattle.frame_comparison.specs.Seen.{ComparisonSeen}
 use Rattle.capture_json.specs.Counted.{flow_data, channel_data, summary_data}

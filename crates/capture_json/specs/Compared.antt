@@ -7,7 +7,7 @@ use Rattle.serde_json.specs.View.{items_of}
 use Rattle.capture_summary.specs.declared.flow_summary.FlowSummary.{FlowSummary}
 use Rattle.burst_fates.specs.declared.missing_reason.MissingReason.{MissingReason}
 use Rattle.burst_fates.specs.Words.{reason_word, burst_in}
-use Rattle.frame_comparison.specs.declared.counts.ComparedCounts.{ComparedCounts}
+use Rattle.frame_comparison.specs.declared.compared_counts.ComparedCounts.{ComparedCounts}
 use Rattle.frame_comparison.specs.Frames.{ShownFrame}
 use Rattle.frame_comparison.specs.Seen.{ComparisonSeen, is_quiet}
 use Rattle.text_lines.specs.Putting.{second}

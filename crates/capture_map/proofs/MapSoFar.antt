@@ -6,9 +6,9 @@ use Rattle.capture_map.specs.Fault.{fault_at, IsLineFault}
 use Rattle.capture_map.specs.Line.{Says}
 use Rattle.capture_map.specs.Reading.{Said, nothing_said, fault_in_place, HasFault, in_place, Outcome, all_said, faulty_line, Reads, no_lines, skipped, taken, faulty, IsMap, IsMapFault}
 use Rattle.capture_map.specs.Inside.MapSoFar.{HasRead, HasReadMore, ReadOn}
-use Rattle.capture_map.specs.declared.fault.LineFault.{LineFault}
-use Rattle.capture_map.specs.declared.fault.LineFault.TheVariants.{Kind, OutOfMemory}
-use Rattle.capture_map.specs.declared.line.MapLine.{MapLine}
+use Rattle.capture_map.specs.declared.map_fault.LineFault.{LineFault}
+use Rattle.capture_map.specs.declared.map_fault.LineFault.TheVariants.{Kind, OutOfMemory}
+use Rattle.capture_map.specs.declared.map_line.MapLine.{MapLine}
 use Rattle.capture_map.specs.declared.reading.Reading.{Reading}
 
 -- what comes of a line by what it says

@@ -3,8 +3,8 @@ use Rattle.std.proofs.Common.{◌≡◌, ℕ, List, [], ◌∷◌, length, refl,
 use Rattle.capture_map.specs.declared.map.MapFlow.{MapFlow}
 use Rattle.capture_map.specs.declared.map.MapSid.{MapSid}
 use Rattle.capture_map.specs.declared.map.MapChannel.{MapChannel}
-use Rattle.capture_map.specs.declared.line.MapLine.{MapLine}
-use Rattle.capture_map.specs.declared.line.MapLine.TheVariants.{Flow, Channel, Sid}
+use Rattle.capture_map.specs.declared.map_line.MapLine.{MapLine}
+use Rattle.capture_map.specs.declared.map_line.MapLine.TheVariants.{Flow, Channel, Sid}
 use Rattle.capture_map.specs.Line.{flow_form, channel_form, sid_form, word_of, SaysFlow, SaysChannel, SaysSid, Says, SaysNothing}
 
 -- fields that say no flow

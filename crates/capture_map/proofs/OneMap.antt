@@ -1,8 +1,8 @@
 -- The lines of a map come to one thing.
 use Rattle.std.proofs.Common.{◌≡◌, ℕ, ◌+◌, Some, None, List, [], ◌∷◌, refl, sym, ap, ◌∙◌, subst}
 use Rattle.text_lines.specs.Lines.{fields_of}
-use Rattle.capture_map.specs.declared.line.MapLine.{MapLine}
-use Rattle.capture_map.specs.declared.fault.MapKind.{MapKind}
+use Rattle.capture_map.specs.declared.map_line.MapLine.{MapLine}
+use Rattle.capture_map.specs.declared.map_fault.MapKind.{MapKind}
 use Rattle.capture_map.specs.Line.{Says, HasFaultByItself}
 use Rattle.capture_map.specs.Reading.{Said, with_line, fault_in_place, HasFault, by_itself, in_place, Outcome, all_said, faulty_line, Reads, no_lines, skipped, taken, faulty}
 use Rattle.capture_map.proofs.OneMapLine.{one_line, says_no_fault, one_fault, none_says, none_has}

@@ -5,10 +5,10 @@ use Rattle.text_lines.specs.Number.{IsNumber}
 use Rattle.capture_map.specs.declared.map.MapFlow.{MapFlow}
 use Rattle.capture_map.specs.declared.map.MapSid.{MapSid}
 use Rattle.capture_map.specs.declared.map.MapChannel.{MapChannel}
-use Rattle.capture_map.specs.declared.line.MapLine.{MapLine}
-use Rattle.capture_map.specs.declared.line.MapLine.TheVariants.{Flow, Channel, Sid}
-use Rattle.capture_map.specs.declared.fault.MapKind.{MapKind}
-use Rattle.capture_map.specs.declared.fault.MapKind.TheVariants.{UnknownLine, FieldCount, BadNumber, UnknownChannel, UnknownFlow, TooManyFlows, SameFlow, SameChannel, SameSid}
+use Rattle.capture_map.specs.declared.map_line.MapLine.{MapLine}
+use Rattle.capture_map.specs.declared.map_line.MapLine.TheVariants.{Flow, Channel, Sid}
+use Rattle.capture_map.specs.declared.map_fault.MapKind.{MapKind}
+use Rattle.capture_map.specs.declared.map_fault.MapKind.TheVariants.{UnknownLine, FieldCount, BadNumber, UnknownChannel, UnknownFlow, TooManyFlows, SameFlow, SameChannel, SameSid}
 use Rattle.capture_map.specs.Line.{MapForm, flow_form, channel_form, sid_form, word_of, count_after, IsFirst, SaysFlow, SaysChannel, SaysSid, Says, IsUnknown, HasWrongCount, HasFaultByItself}
 
 -- a field is one number

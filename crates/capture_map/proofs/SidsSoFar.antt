@@ -3,7 +3,7 @@ use Rattle.std.proofs.Common.{◌≡◌, ◌<◌, ◌==◌, ◌&&◌, ◌||◌, 
 use Rattle.std.specs.List.{list_any}
 use Rattle.std.proofs.lemmas.Bool.{cond-true, cond-false, lt-leb, false≢true}
 use Rattle.capture_map.specs.declared.map.MapSid.{MapSid}
-use Rattle.capture_map.specs.declared.fault.MapKind.TheVariants.{UnknownChannel, UnknownFlow, SameSid}
+use Rattle.capture_map.specs.declared.map_fault.MapKind.TheVariants.{UnknownChannel, UnknownFlow, SameSid}
 use Rattle.capture_map.specs.Reading.{Said, fault_of_sid}
 
 -- a test more, and one before another

@@ -1,11 +1,11 @@
 -- The faults of a map and of one of its lines.
 use Rattle.std.specs.Prelude.{ℕ, List, codes}
-use Rattle.capture_map.specs.declared.fault.MapKind.{MapKind}
-use Rattle.capture_map.specs.declared.fault.MapKind.TheVariants.{UnknownLine, FieldCount, BadNumber, UnknownChannel, UnknownFlow, TooManyFlows, SameFlow, SameChannel, SameSid}
-use Rattle.capture_map.specs.declared.fault.LineFault.{LineFault}
-use Rattle.capture_map.specs.declared.fault.LineFault.TheVariants as line
-use Rattle.capture_map.specs.declared.fault.MapFault.{MapFault}
-use Rattle.capture_map.specs.declared.fault.MapFault.TheVariants as map
+use Rattle.capture_map.specs.declared.map_fault.MapKind.{MapKind}
+use Rattle.capture_map.specs.declared.map_fault.MapKind.TheVariants.{UnknownLine, FieldCount, BadNumber, UnknownChannel, UnknownFlow, TooManyFlows, SameFlow, SameChannel, SameSid}
+use Rattle.capture_map.specs.declared.map_fault.LineFault.{LineFault}
+use Rattle.capture_map.specs.declared.map_fault.LineFault.TheVariants as line
+use Rattle.capture_map.specs.declared.map_fault.MapFault.{MapFault}
+use Rattle.capture_map.specs.declared.map_fault.MapFault.TheVariants as map
 
 -- the words for a kind of fault
 abbrev pub kind_text : MapKind → List ℕ

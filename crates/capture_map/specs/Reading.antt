@@ -7,12 +7,12 @@ use Rattle.capture_map.specs.declared.map.MapFlow.{MapFlow}
 use Rattle.capture_map.specs.declared.map.MapSid.{MapSid}
 use Rattle.capture_map.specs.declared.map.MapChannel.{MapChannel}
 use Rattle.capture_map.specs.declared.map.CaptureMap.{CaptureMap}
-use Rattle.capture_map.specs.declared.line.MapLine.{MapLine}
-use Rattle.capture_map.specs.declared.line.MapLine.TheVariants.{Flow, Channel, Sid}
-use Rattle.capture_map.specs.declared.fault.MapKind.{MapKind}
-use Rattle.capture_map.specs.declared.fault.MapKind.TheVariants.{UnknownChannel, UnknownFlow, TooManyFlows, SameFlow, SameChannel, SameSid}
-use Rattle.capture_map.specs.declared.fault.MapFault.{MapFault}
-use Rattle.capture_map.specs.declared.fault.MapFault.TheVariants.{Line, OutOfMemory}
+use Rattle.capture_map.specs.declared.map_line.MapLine.{MapLine}
+use Rattle.capture_map.specs.declared.map_line.MapLine.TheVariants.{Flow, Channel, Sid}
+use Rattle.capture_map.specs.declared.map_fault.MapKind.{MapKind}
+use Rattle.capture_map.specs.declared.map_fault.MapKind.TheVariants.{UnknownChannel, UnknownFlow, TooManyFlows, SameFlow, SameChannel, SameSid}
+use Rattle.capture_map.specs.declared.map_fault.MapFault.{MapFault}
+use Rattle.capture_map.specs.declared.map_fault.MapFault.TheVariants.{Line, OutOfMemory}
 
 -- what some lines say, each kind in its order
 pub record Said : Type 0 where

@@ -16,14 +16,14 @@
 //! comes to only one of these ([`laws::lines_come_to_one_thing`]).
 #![tactic(auto)]
 
-mod fault;
 mod fields;
 pub mod laws;
-mod line;
 mod map;
+mod map_fault;
+mod map_line;
 mod reading;
 
-pub use fault::{MapFault, MapKind};
 pub use lane::MOST_CHANNELS;
 pub use map::{CaptureMap, MOST_FLOWS, MapChannel, MapFlow, MapSid, SID_MAX};
+pub use map_fault::{MapFault, MapKind};
 pub use reading::read_map;

@@ -2,9 +2,9 @@
 ghost use Rattle.std.specs.Prelude.{IfOk, IfErr};
 ghost use Rattle.capture_map.specs.Reading.{IsMap, IsMapFault};
 
-use crate::fault::{LineFault, MapFault, MapKind};
-use crate::line::{MapLine, read_map_line};
 use crate::map::{CaptureMap, MOST_FLOWS, MapChannel, MapFlow, MapSid};
+use crate::map_fault::{LineFault, MapFault, MapKind};
+use crate::map_line::{MapLine, read_map_line};
 use std::alloc::Global;
 use std::collections::HashSet;
 use text_lines::{split_field, split_line};

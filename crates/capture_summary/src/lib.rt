@@ -16,9 +16,9 @@
 #![tactic(auto)]
 
 mod channel_summary;
-mod counts;
 mod flow_summary;
 pub mod laws;
+mod named_numbers;
 mod passed;
 mod refusals;
 mod report;
@@ -26,10 +26,9 @@ mod requests;
 mod sequence;
 mod summary;
 mod summary_text;
-mod words;
+mod summed_counts;
 
 pub use channel_summary::ChannelSummary;
-pub use counts::both_counts;
 pub use flow_summary::FlowSummary;
 pub use passed::{PassedCounts, PassedReason};
 pub use refusals::RefusalCounts;
@@ -38,3 +37,4 @@ pub use requests::RequestLines;
 pub use sequence::{FrameSequence, sequence_of};
 pub use summary::CaptureSummary;
 pub use summary_text::put_summary;
+pub use summed_counts::both_counts;

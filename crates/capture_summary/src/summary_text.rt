@@ -11,10 +11,10 @@ ghost use Rattle.capture_summary.specs.SummaryText.{reason_line, summary_text};
 
 use crate::channel_summary::ChannelSummary;
 use crate::flow_summary::FlowSummary;
+use crate::named_numbers::{put_named, put_named_line};
 use crate::passed::{ALL_REASONS, PassedCounts, PassedReason};
 use crate::refusals::{ALL_REFUSALS, RefusalCounts, refusal_text};
 use crate::summary::CaptureSummary;
-use crate::words::{put_named, put_named_line};
 use lane::Refusal;
 use text_lines::{PutText, put_word};
 

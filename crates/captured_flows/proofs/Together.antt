@@ -4,7 +4,7 @@ use Rattle.std.specs.Prelude.{option_map}
 use Rattle.std.proofs.lemmas.List.{map-set, map-append, map_more}
 use Rattle.std.proofs.lemmas.Option.{same_Some, slice_get-map}
 use Rattle.captured_flows.specs.declared.waits.Waits.{Waits}
-use Rattle.captured_flows.specs.declared.flow.CapturedFlow.{CapturedFlow}
+use Rattle.captured_flows.specs.declared.flow_bursts.CapturedFlow.{CapturedFlow}
 use Rattle.captured_flows.specs.Flow.{FlowView}
 use Rattle.captured_flows.specs.Seen.{flow_seen, KeepsWaits, HasWaits}
 use Rattle.capture_map.specs.declared.map.MapFlow.{MapFlow}

@@ -4,7 +4,7 @@ use Rattle.capture_rules.specs.Waiting.{order_seen}
 use Rattle.capture_rules.specs.Begin.{beginning_seen}
 use Rattle.capture_rules.specs.Held.{held_by, wait_of}
 use Rattle.captured_flows.specs.declared.waits.Waits.{Waits}
-use Rattle.captured_flows.specs.declared.flow.CapturedFlow.{CapturedFlow}
+use Rattle.captured_flows.specs.declared.flow_bursts.CapturedFlow.{CapturedFlow}
 use Rattle.captured_flows.specs.Flow.{FlowView}
 
 abbrev pub flow_seen : CapturedFlow → FlowView

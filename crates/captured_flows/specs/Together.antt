@@ -6,7 +6,7 @@ use Rattle.captured_flows.specs.Acts.{Act}
 use Rattle.capture_rules.specs.declared.arrival.Arrival.{Arrival}
 use Rattle.captured_flows.specs.declared.sound_burst.SoundBurst.{SoundBurst}
 use Rattle.captured_flows.specs.declared.waits.Waits.{Waits}
-use Rattle.captured_flows.specs.declared.flow.CapturedFlow.{CapturedFlow}
+use Rattle.captured_flows.specs.declared.flow_bursts.CapturedFlow.{CapturedFlow}
 use Rattle.captured_flows.specs.Flow.{FlowView, flow_begun, Comes, EndsWaiting}
 use Rattle.captured_flows.specs.Seen.{flow_seen, HasWaits}
 

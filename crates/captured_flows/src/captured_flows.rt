@@ -10,11 +10,11 @@ ghost use Rattle.captured_flows.specs.Together.{HaveWaits, ComesAt, EndsAt, view
 use crate::burst_taken::BurstTaken;
 use crate::capture_consumer::CaptureConsumer;
 use crate::captured_burst::{CapturedBurst, granted_to, sound};
-use crate::flow::CapturedFlow;
-use crate::setup::{flows_of, receiver_of, setup_of};
+use crate::flow_bursts::CapturedFlow;
+use crate::map_setup::{flows_of, receiver_of, setup_of};
 use crate::sids::{SidFlows, channel_of};
 use crate::sound_burst::SoundBurst;
-use crate::taking::{take_grant, take_unadmitted};
+use crate::taken_inputs::{take_grant, take_unadmitted};
 use crate::waits::Waits;
 use capture_map::CaptureMap;
 use capture_rules::{Arrival, ClockCounts};

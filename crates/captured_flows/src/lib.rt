@@ -31,11 +31,11 @@ mod burst_taken;
 mod capture_consumer;
 mod captured_burst;
 mod captured_flows;
-mod flow;
-mod setup;
+mod flow_bursts;
+mod map_setup;
 mod sids;
 mod sound_burst;
-mod taking;
+mod taken_inputs;
 mod waits;
 
 pub use burst_taken::BurstTaken;

@@ -15,7 +15,7 @@ use Rattle.text_lines.specs.Lines.{lines_of}
 use Rattle.text_lines.specs.Putting.{Puts}
 use Rattle.consumer.specs.declared.given.Given.{Given}
 use Rattle.texts.specs.declared.follow.settings.FollowSettings.{FollowSettings}
-use Rattle.followed_traces.specs.declared.input.Followed.{Followed}
+use Rattle.followed_traces.specs.declared.follow_input.Followed.{Followed}
 use Rattle.followed_traces.proofs.EndOfTrace.{left_lines, left_counts}
 use Rattle.followed_traces.specs.End.{end_text, IsFollowedTo}
 use Rattle.texts.specs.declared.follow.happening.Happening.{Happening}

@@ -25,7 +25,7 @@ use Rattle.texts.specs.Happened.{HasHappened, HasHappenedFor, HappenedBy, Happen
 use Rattle.texts.specs.Follow.{told_lines, IsFollowedSoFar}
 use Rattle.texts.specs.Trace.Line.{shape_of}
 use Rattle.texts.specs.Trace.Place.{Said, nothing_said_in, trace_format}
-use Rattle.followed_traces.specs.declared.input.FollowInput.{FollowInput}
+use Rattle.followed_traces.specs.declared.follow_input.FollowInput.{FollowInput}
 use Rattle.followed_traces.specs.Inside.Watched.{ReceiverUnderWay, Watched, starts_watched, HasFollowed}
 use Rattle.followed_traces.specs.Inside.Lines.{HasFollowedLines, no_lines_followed, IsAllPut, with_told}
 use Rattle.texts.specs.Inside.TraceInput.{TraceState, taking_format, WereTaken}

@@ -22,7 +22,7 @@ use Rattle.texts.specs.declared.follow.settings.FollowSettings.{FollowSettings}
 use Rattle.texts.specs.Follow.{closed_flow, closed_told, closed_lines, tally_line, lines_told}
 use Rattle.texts.specs.Replay.{IsSetupOf}
 use Rattle.texts.specs.Trace.Place.{Said}
-use Rattle.followed_traces.specs.declared.input.Followed.{Followed}
+use Rattle.followed_traces.specs.declared.follow_input.Followed.{Followed}
 use Rattle.followed_traces.specs.End.{IsFollowedTo}
 use Rattle.followed_traces.specs.Inside.Watched.{Watched, EndsWhole}
 use Rattle.followed_traces.proofs.FollowedTrace.{same_lines}

@@ -57,7 +57,7 @@ use Rattle.answers.specs.Room.{EntryHasBytes}
 use Rattle.answers.specs.ToldAlike.{EntryStandsIn, is_told_for}
 use Rattle.answers.proofs.ToldOfWhole.{nothing_beside, one_more_beside, told_given}
 use Rattle.answers.proofs.ClosedBeside.{closes_beside}
-use Rattle.followed_traces.specs.declared.input.FollowInput.{FollowInput}
+use Rattle.followed_traces.specs.declared.follow_input.FollowInput.{FollowInput}
 use Rattle.followed_traces.specs.Inside.Watched.{TellsStandingIn, TellsStandingOf, TellsStandingIfAny, ReceiverUnderWay, would_be_followed, Watched, starts_watched, HappensForWhole, HasFollowed, IsNonePending, EndsFollowing}
 use Rattle.followed_traces.specs.Inside.Lines.{with_told, IsAllPut, PutsHappened}
 

@@ -6,7 +6,7 @@ use Rattle.text_lines.specs.declared.fault.LineFault.{LineFault}
 use Rattle.answers.proofs.ReadTraces.{line-bytes}
 use Rattle.texts.specs.Inside.StandIn.{MayStandFor}
 use Rattle.texts.specs.Inside.TraceInput.{TraceState, taking_format, HasTakenLines}
-use Rattle.followed_traces.specs.declared.input.FollowInput.{FollowInput}
+use Rattle.followed_traces.specs.declared.follow_input.FollowInput.{FollowInput}
 use Rattle.followed_traces.specs.Inside.Watched.{ReceiverUnderWay, would_be_followed, Watched, starts_watched, HasFollowed}
 use Rattle.followed_traces.specs.Inside.Lines.{HasFollowedLines}
 

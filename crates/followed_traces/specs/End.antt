@@ -15,7 +15,7 @@ use Rattle.texts.specs.Follow.{lines_told, closed_lines}
 use Rattle.texts.specs.Happened.{AreHandedIn, HasHappened}
 use Rattle.texts.specs.Replay.{IsSetupOf}
 use Rattle.texts.specs.Trace.Place.{Said}
-use Rattle.followed_traces.specs.declared.input.Followed.{Followed}
+use Rattle.followed_traces.specs.declared.follow_input.Followed.{Followed}
 
 -- What is known of the end of a trace whose lines say this, of which this was told: all was handed
 -- in; and what is left to be told is what happened by its last line and what the receiver of all of

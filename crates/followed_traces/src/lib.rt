@@ -14,8 +14,8 @@
 //! The lines and their texts are those of `texts`.
 #![tactic(auto)]
 
+mod follow_input;
 mod following;
-mod input;
 
+pub use follow_input::{FollowInput, Followed, finish_follow, put_end};
 pub use following::Following;
-pub use input::{FollowInput, Followed, finish_follow, put_end};

@@ -3,7 +3,7 @@ use Rattle.std.proofs.Common.{◌≡◌, ℕ, ◌-◌, ◌<◌, ◌≤◌, zero,
 use Rattle.std.specs.Result.{is_err}
 use Rattle.std.proofs.lemmas.List.{length-take, length-drop, set-get_or}
 use Rattle.std.proofs.lemmas.List.Quantifiers.{position-Some}
-use Rattle.frame_comparison.specs.declared.counts.ComparedCounts.{ComparedCounts}
+use Rattle.frame_comparison.specs.declared.compared_counts.ComparedCounts.{ComparedCounts}
 use Rattle.frame_comparison.specs.Frames.{CameFrame, frames_in_both, frames_given_up}
 use Rattle.frame_comparison.specs.Compared.{are_equal, place_of_equal, own_moved, other_moved, ended, longest_wait}
 use Rattle.frame_comparison.specs.Seen.{SideSeen, side_seen_after, settled_counts, waiting_of}

@@ -5,7 +5,7 @@ use Rattle.std.specs.Option.{option_map}
 use Rattle.std.proofs.lemmas.List.{map-set, length-append}
 use Rattle.std.proofs.lemmas.Option.{slice_get-map, get_or_from_slice_get, slice_get-get_or, none-some}
 use Rattle.frame_comparison.specs.declared.side.Side.{Side}
-use Rattle.frame_comparison.specs.declared.counts.ComparedCounts.{ComparedCounts}
+use Rattle.frame_comparison.specs.declared.compared_counts.ComparedCounts.{ComparedCounts}
 use Rattle.frame_comparison.specs.Frames.{CameFrame, FlowFrames, SideFrames, ShownFrame, SettledFrame, kept, frames_in_both, frames_given_up}
 use Rattle.frame_comparison.specs.Compared.{Comparison, moved, ended, with_moved, with_frame, with_frame_of, with_end_of, flow_after, shown_of_all, no_frames}
 use Rattle.frame_comparison.specs.Seen.{SideSeen, kept_within, listed, counts_of, settled_counts, with_counts, no_counts, side_seen_after, seen_after, seen_of, moved_in, waiting_of}

@@ -5,7 +5,7 @@ use Rattle.hex.specs.Hex.{encode_lower}
 use Rattle.text_lines.specs.Putting.{numbered_texts, seconds_text}
 use Rattle.burst_fates.specs.declared.missing_reason.MissingReason.{MissingReason}
 use Rattle.burst_fates.specs.Words.{reason_text}
-use Rattle.frame_comparison.specs.declared.counts.ComparedCounts.{ComparedCounts}
+use Rattle.frame_comparison.specs.declared.compared_counts.ComparedCounts.{ComparedCounts}
 use Rattle.frame_comparison.specs.Frames.{ShownFrame}
 use Rattle.frame_comparison.specs.Seen.{ComparisonSeen, is_quiet}
 

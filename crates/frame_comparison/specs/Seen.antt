@@ -3,7 +3,7 @@ use Rattle.std.specs.Prelude.{ℕ, ◌+◌, ◌-◌, ◌^◌, ◌==◌, ◌&&◌
 use Rattle.std.specs.List.{list_all}
 use Rattle.frame_comparison.specs.declared.side.Side.{Side}
 use Rattle.frame_comparison.specs.declared.side.Side.TheVariants.{Analyser, Here}
-use Rattle.frame_comparison.specs.declared.counts.ComparedCounts.{ComparedCounts}
+use Rattle.frame_comparison.specs.declared.compared_counts.ComparedCounts.{ComparedCounts}
 use Rattle.frame_comparison.specs.Frames.{CameFrame, FlowFrames, SideFrames, ShownFrame, kept, frames_in_both, frames_given_up}
 use Rattle.frame_comparison.specs.Compared.{Comparison, place_of_equal, own_moved, other_moved, moved, shown_of_all}
 

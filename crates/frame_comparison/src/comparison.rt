@@ -7,7 +7,7 @@ ghost use Rattle.frame_comparison.specs.Seen.{ComparisonSeen, seen_of, seen_afte
 ghost use Rattle.frame_comparison.specs.Seen.{waiting_of, listed_of, have_none_alone, failed};
 
 use crate::coming_frame::ComingFrame;
-use crate::counts::ComparedCounts;
+use crate::compared_counts::ComparedCounts;
 use crate::lonely_frame::LonelyFrame;
 use crate::one_side::OneSide;
 use crate::settle::settle_sides;

@@ -27,10 +27,10 @@
 #![tactic(auto)]
 
 mod coming_frame;
+mod compared_counts;
 mod comparison;
-mod counts;
+mod comparison_lines;
 pub mod laws;
-mod lines;
 mod lonely_frame;
 mod one_side;
 mod reasons;
@@ -38,9 +38,9 @@ mod settle;
 mod side;
 mod waiting_frame;
 
+pub use compared_counts::ComparedCounts;
 pub use comparison::FrameComparison;
-pub use counts::ComparedCounts;
-pub use lines::put_comparison;
+pub use comparison_lines::put_comparison;
 pub use lonely_frame::{LonelyFrame, MOST_LISTED, SHOWN_BYTES};
 pub use one_side::LONGEST_WAIT;
 pub use reasons::reason_at;

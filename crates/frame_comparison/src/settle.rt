@@ -5,7 +5,7 @@ ghost use Rattle.frame_comparison.specs.Seen.{side_seen_after, settled_counts, m
 ghost use Rattle.frame_comparison.specs.Seen.{own_moved_in, other_moved_in};
 
 use crate::coming_frame::ComingFrame;
-use crate::counts::ComparedCounts;
+use crate::compared_counts::ComparedCounts;
 use crate::one_side::OneSide;
 use crate::side::Side;
 use std::alloc::{AllocError, Global};

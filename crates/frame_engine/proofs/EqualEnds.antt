@@ -4,7 +4,7 @@ use Rattle.std.specs.List.{list_all}
 use Rattle.std.specs.Prelude.{IfSome}
 use Rattle.std.proofs.lemmas.Bool.{and_parts, eqb-true}
 use Rattle.capture_map.specs.declared.map.CaptureMap.{CaptureMap}
-use Rattle.frame_comparison.specs.declared.counts.ComparedCounts.{ComparedCounts}
+use Rattle.frame_comparison.specs.declared.compared_counts.ComparedCounts.{ComparedCounts}
 use Rattle.frame_comparison.specs.Frames.{FlowFrames}
 use Rattle.frame_comparison.specs.Compared.{Comparison, empty_flow, nothing_came, finished}
 use Rattle.frame_comparison.specs.Aligned.{Arrival, with_all, flow_of, flow_at_end}

@@ -28,10 +28,10 @@ mod file;
 pub mod laws;
 mod link;
 mod named_bursts;
-mod numbers;
 mod origin;
 mod record_packet;
 mod recorded;
+mod tlv_number;
 
 pub use file::{LONGEST_FRAME, put_file_header, put_frame};
 pub use link::FrameLink;

@@ -6,9 +6,9 @@ ghost use Rattle.capture.specs.Packet.{Parts};
 ghost use Rattle.capture.specs.Seen.{field};
 ghost use Rattle.capture.specs.SeenCapture.{capture_parts};
 
-use crate::numbers::number;
 use crate::origin::{BURST, BURST_ID};
 use crate::record_packet::packet_in;
+use crate::tlv_number::number;
 use arrayvec::ArrayVec;
 use capture::{CaptureRecord, Tlv, are_tlvs, last_value, split_tlv};
 

@@ -1,9 +1,9 @@
 //! The MAC frames that an analyser has recorded beside its bursts.
 ghost use Rattle.std.specs.Prelude.{◌≡◌, List, Some, IfSome, option_map};
 
-use crate::numbers::number;
 use crate::origin::{CHANNEL, SID};
 use crate::record_packet::packet_in;
+use crate::tlv_number::number;
 use capture::{CaptureRecord, Packet, last_value};
 
 /// The type of a packet that holds an upstream MAC frame.

@@ -19,14 +19,14 @@
 //! that is put is that of the definition `map_text`.
 #![tactic(auto)]
 
-mod flows;
 mod map_text;
+mod registered_flows;
 mod registered_map;
+mod registered_sids;
 mod remarks;
-mod sids;
 mod telling;
-mod told;
-mod words;
+mod telling_text;
+mod whole_message;
 
 pub use map_text::put_map;
 pub use registered_map::RegisteredMap;

@@ -12,7 +12,7 @@ use crate::remarks::Remarks;
 use crate::telling::{
     RegisteredChannel, RegisteredFlow, RegisteredSid, Remark, RemarkKind, Telling,
 };
-use crate::words::put_telling;
+use crate::telling_text::put_telling;
 use text_lines::{PutText, put_spaced, put_word};
 
 /// The window that a flow is given, which no registration says.

@@ -3,8 +3,8 @@
 
 mod consumed;
 mod consuming;
-mod settling;
+mod settled_rings;
 
 pub use consumed::{Consumed, Look};
 pub use consuming::{begin, take_all};
-pub use settling::settle_all;
+pub use settled_rings::settle_all;

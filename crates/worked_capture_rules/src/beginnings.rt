@@ -1,5 +1,5 @@
 //! Where flows begin and begin anew.
-use capture_rules::{Arrival, BEGINNING, Beginning, HandedOn, MOST_WAITING};
+use capture_rules::{Arrival, BEGINNING, Beginning, Begun, HandedOn, MOST_WAITING};
 use std::test::Fail;
 
 /// A silence lasts for more than so many nanoseconds.
@@ -18,6 +18,17 @@ fn one(time: u64, number: u16) -> HandedOn<u16> {
     }
 }
 
+/// What a beginning has come to: its first number, whether it is anew, and how many were kept.
+fn come_to(begun: Option<Begun<u16>>) -> Option<(u16, bool, usize)> {
+    let begun = begun?;
+    Some((begun.first, begun.is_anew, begun.kept.len()))
+}
+
+/// What is handed on.
+fn item(next: Option<HandedOn<u16>>) -> Option<u16> {
+    Some(next?.arrival.item)
+}
+
 #[test]
 fn a_first_number_is_the_least(rt: HostRuntime) -> Result<(), Fail> {
     let mut flow = Beginning::new(rt.alloc(), WAIT, false);
@@ -32,12 +43,10 @@ fn a_first_number_is_the_least(rt: HostRuntime) -> Result<(), Fail> {
         assert!(rt; !flow.is_silent(time));
         assert!(rt; flow.hand_on(one(time, number), 0, 16)?.is_none());
     }
-    let begun = flow.end_at(rt.alloc(), BEGINNING + 1);
-    assert!(rt;
-        begun.is_some_and(|begun| begun.first == 8190 && !begun.is_anew && begun.kept.len() == 4)
-    );
+    let begun = come_to(flow.end_at(rt.alloc(), BEGINNING + 1));
+    assert!(rt; begun == Some((8190, false, 4)));
     let next = flow.hand_on(one(BEGINNING + 1, 9), 4, 16)?;
-    assert!(rt; next.is_some_and(|next| next.arrival.item == 9));
+    assert!(rt; item(next) == Some(9));
     Ok(())
 }
 
@@ -47,17 +56,15 @@ fn after_a_silence_a_flow_goes_on_or_begins_anew(rt: HostRuntime) -> Result<(), 
     assert!(rt; !flow.is_silent(7));
     assert!(rt; flow.hand_on(one(7, 500), 0, 16)?.is_some());
     // No silence, or within the window.
-    assert!(rt; !flow.is_silent(WAIT + 7) && flow.is_silent(WAIT + 8));
+    assert!(rt; !flow.is_silent(WAIT + 7));
+    assert!(rt; flow.is_silent(WAIT + 8));
     assert!(rt; flow.hand_on(one(WAIT + 7, 16), 0, 16)?.is_some());
     assert!(rt; flow.hand_on(one(WAIT * 9, 15), 0, 16)?.is_some());
     // After a silence, and out of the window.
     assert!(rt; flow.hand_on(one(WAIT * 18, 16), 0, 16)?.is_none());
     assert!(rt; !flow.is_silent(WAIT * 90));
     assert!(rt; flow.hand_on(one(WAIT * 90, 1), 0, 16)?.is_none());
-    let begun = flow.end(rt.alloc());
-    assert!(rt;
-        begun.is_some_and(|begun| begun.first == 1 && begun.is_anew && begun.kept.len() == 2)
-    );
+    assert!(rt; come_to(flow.end(rt.alloc())) == Some((1, true, 2)));
     assert!(rt; flow.end(rt.alloc()).is_none());
     Ok(())
 }
@@ -79,7 +86,7 @@ fn a_beginning_is_over_with_so_many(rt: HostRuntime) -> Result<(), Fail> {
         assert!(rt; flow.end_at(rt.alloc(), 7).is_none());
         assert!(rt; flow.hand_on(one(7, number ^ 1), 0, 16)?.is_none());
     }
-    let begun = flow.end_at(rt.alloc(), 7);
-    assert!(rt; begun.is_some_and(|begun| begun.first == 0 && begun.kept.len() == MOST_WAITING));
+    let begun = come_to(flow.end_at(rt.alloc(), 7));
+    assert!(rt; begun == Some((0, false, MOST_WAITING)));
     Ok(())
 }

@@ -1,5 +1,5 @@
 //! The order on each channel.
-use capture_rules::{Arrival, ChannelOrder, ClockCounts, MOST_WAITING};
+use capture_rules::{Arrival, ChannelOrder, ClockCounts, HandedOn, MOST_WAITING};
 use std::alloc::{AllocError, Global};
 use std::test::Fail;
 
@@ -9,6 +9,12 @@ const REORDER: u64 = 100;
 /// What is handed on: when, and which burst by its place among all that came.
 type Handed = (u64, usize);
 
+/// When a burst is handed on, and which.
+fn told(next: Option<HandedOn<usize>>) -> Option<Handed> {
+    let next = next?;
+    Some((next.time, next.arrival.item))
+}
+
 /// What is handed on of bursts that come so: when, on which channel, under which number. After the
 /// last one comes all that waits.
 fn handed_on(alloc: Global, came: &[(u64, usize, u16)]) -> Result<Vec<Handed>, AllocError> {
@@ -16,8 +22,8 @@ fn handed_on(alloc: Global, came: &[(u64, usize, u16)]) -> Result<Vec<Handed>, A
     let mut handed = Vec::new(alloc);
     for (item, (time, channel, number)) in came.iter().enumerate() {
         for _ in 0..=item {
-            match order.next(*time) {
-                Some(next) => handed.push((next.time, next.arrival.item))?,
+            match told(order.next(*time)) {
+                Some(next) => handed.push(next)?,
                 None => break,
             }
         }
@@ -27,13 +33,13 @@ fn handed_on(alloc: Global, came: &[(u64, usize, u16)]) -> Result<Vec<Handed>, A
             number: *number % 8192,
             item,
         })?;
-        if let Some(next) = last {
-            handed.push((next.time, next.arrival.item))?;
+        if let Some(next) = told(last) {
+            handed.push(next)?;
         }
     }
     for _ in came {
-        match order.next_left() {
-            Some(next) => handed.push((next.time, next.arrival.item))?,
+        match told(order.next_left()) {
+            Some(next) => handed.push(next)?,
             None => break,
         }
     }
@@ -83,15 +89,15 @@ fn it_waits_for_longer_than_that(rt: HostRuntime) -> Result<(), Fail> {
         time: 5,
         channel: 0,
         number: 4,
-        item: 'a',
+        item: 3,
     })?;
     assert!(rt; last.is_none());
     assert!(rt; order.next(0).is_none());
     assert!(rt; order.next(105).is_none());
     assert!(rt; order.len() == 1);
-    let next = order.next(106);
-    assert!(rt; next.is_some_and(|next| next.time == 5 && next.arrival.item == 'a'));
-    assert!(rt; order.next(u64::MAX).is_none() && order.next_left().is_none());
+    assert!(rt; told(order.next(106)) == Some((5, 3)));
+    assert!(rt; order.next(u64::MAX).is_none());
+    assert!(rt; order.next_left().is_none());
     Ok(())
 }
 
@@ -163,11 +169,13 @@ fn how_often_a_clock_is_set_back_is_counted(rt: HostRuntime) -> Result<(), Fail>
         set_back: 2,
         crowded: 0,
     };
-    assert!(rt; order.clock_counts() == counts && order.len() == 1);
+    assert!(rt; order.clock_counts() == counts);
+    assert!(rt; order.len() == 1);
     let both = ClockCounts {
         set_back: u64::MAX,
         crowded: 7,
     };
-    assert!(rt; counts.and(both) == both && ClockCounts::none().and(counts) == counts);
+    assert!(rt; counts.and(both) == both);
+    assert!(rt; ClockCounts::none().and(counts) == counts);
     Ok(())
 }

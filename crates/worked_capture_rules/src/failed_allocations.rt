@@ -18,7 +18,8 @@ fn a_burst_waits_the_next_time(rt: HostRuntime) -> Result<(), Fail> {
     let mut order = ChannelOrder::new(rt.alloc(), 0);
     for number in 0..20 {
         if let Err(back) = order.push(arrival(number)) {
-            assert!(rt; order.len() == usize::from(number) && back.value.item == number);
+            assert!(rt; order.len() == usize::from(number));
+            assert!(rt; back.value.item == number);
             assert!(rt; order.push(back.value)?.is_none());
         }
         assert!(rt; order.len() == usize::from(number) + 1);

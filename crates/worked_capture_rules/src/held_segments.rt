@@ -8,7 +8,8 @@ const WAIT: u64 = 20;
 #[test]
 fn a_flow_skips_to_the_last_old_one(rt: HostRuntime) -> Result<(), Fail> {
     let mut held = HeldTimes::new(rt.alloc(), WAIT);
-    assert!(rt; held.is_empty() && held.skip_to(u64::MAX, 0).is_none());
+    assert!(rt; held.is_empty());
+    assert!(rt; held.skip_to(u64::MAX, 0).is_none());
     for (number, time) in [(2, 10), (8191, 9), (5, 11), (3, 10)] {
         held.keep(HeldTime { number, time })?;
     }
@@ -17,7 +18,8 @@ fn a_flow_skips_to_the_last_old_one(rt: HostRuntime) -> Result<(), Fail> {
     assert!(rt; held.skip_to(31, 8190) == Some(3));
     assert!(rt; held.skip_to(32, 8190) == Some(5));
     held.pass(4);
-    assert!(rt; held.skip_to(31, 4).is_none() && held.skip_to(32, 4) == Some(5));
+    assert!(rt; held.skip_to(31, 4).is_none());
+    assert!(rt; held.skip_to(32, 4) == Some(5));
     held.pass(6);
     assert!(rt; held.is_empty());
     Ok(())

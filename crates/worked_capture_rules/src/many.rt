@@ -128,23 +128,20 @@ fn arrival(time: u64, channel: u64, number: u64, item: u64) -> (Arrival<u64>, Ar
     (one, other)
 }
 
+/// All that is handed on with a burst, as numbers.
+fn parts(handed: &Option<HandedOn<u64>>) -> Option<[u64; 5]> {
+    let HandedOn { time, arrival } = handed.as_ref()?;
+    let (channel, number) = (arrival.channel as u64, u64::from(arrival.number));
+    Some([*time, arrival.time, channel, number, arrival.item])
+}
+
 /// Whether the same is handed on.
 fn is_same(one: &Option<HandedOn<u64>>, other: &Option<HandedOn<u64>>) -> bool {
-    match (one, other) {
-        (None, None) => true,
-        (Some(one), Some(other)) => {
-            one.time == other.time
-                && one.arrival.time == other.arrival.time
-                && one.arrival.channel == other.arrival.channel
-                && one.arrival.number == other.arrival.number
-                && one.arrival.item == other.arrival.item
-        }
-        _ => false,
-    }
+    parts(one) == parts(other)
 }
 
 /// How many were handed on before both orders differed; all, where they don't.
-fn handed_alike(alloc: Global, kind: Kind, dice: &mut Dice) -> Result<u64, AllocError> {
+fn handed_alike(alloc: Global, kind: &Kind, dice: &mut Dice) -> Result<u64, AllocError> {
     let mut order = ChannelOrder::new(alloc, kind.reorder);
     let mut scanned = ScannedOrder {
         reorder: kind.reorder,
@@ -212,142 +209,143 @@ const PLAIN: Kind = Kind {
     count: 300,
 };
 
+const KINDS: [(&str, Kind); 16] = [
+    ("plain", PLAIN),
+    (
+        "few numbers of one channel",
+        Kind {
+            channels: 1,
+            numbers: 8,
+            ahead: 2,
+            count: 2500,
+            ..PLAIN
+        },
+    ),
+    (
+        "ties",
+        Kind {
+            numbers: 12,
+            ..PLAIN
+        },
+    ),
+    (
+        "round the greatest number",
+        Kind {
+            numbers: 300,
+            first: 8100,
+            ..PLAIN
+        },
+    ),
+    (
+        "half the numbers away",
+        Kind {
+            numbers: 4100,
+            first: 4090,
+            ..PLAIN
+        },
+    ),
+    (
+        "one channel",
+        Kind {
+            channels: 1,
+            ..PLAIN
+        },
+    ),
+    (
+        "many channels",
+        Kind {
+            channels: 15,
+            ..PLAIN
+        },
+    ),
+    (
+        "times lost",
+        Kind {
+            ahead: 0,
+            reorder: 0,
+            ..PLAIN
+        },
+    ),
+    (
+        "times that go back",
+        Kind {
+            ahead: 60,
+            back: 40,
+            reorder: 700,
+            ..PLAIN
+        },
+    ),
+    (
+        "times that jump",
+        Kind {
+            ahead: 2000,
+            back: 1900,
+            reorder: 3000,
+            ..PLAIN
+        },
+    ),
+    (
+        "some of those that are left",
+        Kind {
+            left: 3,
+            reorder: 4000,
+            ..PLAIN
+        },
+    ),
+    (
+        "ties of those that are left",
+        Kind {
+            left: 2,
+            numbers: 5,
+            back: 9,
+            ahead: 10,
+            ..PLAIN
+        },
+    ),
+    (
+        "some of those that are left, most of which came too late for the oldest one",
+        Kind {
+            channels: 1,
+            numbers: 900,
+            ahead: 2000,
+            back: 1990,
+            reorder: 300,
+            left: 2,
+            count: 1200,
+            ..PLAIN
+        },
+    ),
+    (
+        "none waits",
+        Kind {
+            reorder: 0,
+            ..PLAIN
+        },
+    ),
+    (
+        "some fifty wait",
+        Kind {
+            reorder: 160,
+            numbers: 500,
+            ..PLAIN
+        },
+    ),
+    (
+        "some hundred wait",
+        Kind {
+            reorder: 320,
+            numbers: 500,
+            ..PLAIN
+        },
+    ),
+];
+
 #[test]
 fn many_are_handed_on_as_a_look_at_each_finds_them(rt: HostRuntime) -> Result<(), Fail> {
-    let kinds = [
-        ("plain", PLAIN),
-        (
-            "few numbers of one channel",
-            Kind {
-                channels: 1,
-                numbers: 8,
-                ahead: 2,
-                count: 2500,
-                ..PLAIN
-            },
-        ),
-        (
-            "ties",
-            Kind {
-                numbers: 12,
-                ..PLAIN
-            },
-        ),
-        (
-            "round the greatest number",
-            Kind {
-                numbers: 300,
-                first: 8100,
-                ..PLAIN
-            },
-        ),
-        (
-            "half the numbers away",
-            Kind {
-                numbers: 4100,
-                first: 4090,
-                ..PLAIN
-            },
-        ),
-        (
-            "one channel",
-            Kind {
-                channels: 1,
-                ..PLAIN
-            },
-        ),
-        (
-            "many channels",
-            Kind {
-                channels: 15,
-                ..PLAIN
-            },
-        ),
-        (
-            "times lost",
-            Kind {
-                ahead: 0,
-                reorder: 0,
-                ..PLAIN
-            },
-        ),
-        (
-            "times that go back",
-            Kind {
-                ahead: 60,
-                back: 40,
-                reorder: 700,
-                ..PLAIN
-            },
-        ),
-        (
-            "times that jump",
-            Kind {
-                ahead: 2000,
-                back: 1900,
-                reorder: 3000,
-                ..PLAIN
-            },
-        ),
-        (
-            "some of those that are left",
-            Kind {
-                left: 3,
-                reorder: 4000,
-                ..PLAIN
-            },
-        ),
-        (
-            "ties of those that are left",
-            Kind {
-                left: 2,
-                numbers: 5,
-                back: 9,
-                ahead: 10,
-                ..PLAIN
-            },
-        ),
-        (
-            "some of those that are left, most of which came too late for the oldest one",
-            Kind {
-                channels: 1,
-                numbers: 900,
-                ahead: 2000,
-                back: 1990,
-                reorder: 300,
-                left: 2,
-                count: 1200,
-                ..PLAIN
-            },
-        ),
-        (
-            "none waits",
-            Kind {
-                reorder: 0,
-                ..PLAIN
-            },
-        ),
-        (
-            "some fifty wait",
-            Kind {
-                reorder: 160,
-                numbers: 500,
-                ..PLAIN
-            },
-        ),
-        (
-            "some hundred wait",
-            Kind {
-                reorder: 320,
-                numbers: 500,
-                ..PLAIN
-            },
-        ),
-    ];
     let mut dice = Dice {
         state: 0x9E37_79B9_7F4A_7C15,
     };
-    for (name, kind) in kinds {
+    for (name, kind) in &KINDS {
         for _ in 0..16 {
             let alike = handed_alike(rt.alloc(), kind, &mut dice)?;
             assert!(rt; alike == kind.count, "{name}: {alike}");

@@ -33,6 +33,14 @@ fn arrival(time: u64, channel: u64, number: u64, item: u64) -> Arrival<u64> {
     }
 }
 
+/// The time and the place of a burst that is handed on.
+fn put_next(answers: &mut Vec<u64>, next: Option<HandedOn<u64>>) -> Result<(), AllocError> {
+    match next {
+        Some(next) => answers.extend_from_slice(&[next.time, next.arrival.item]),
+        None => Ok(()),
+    }
+}
+
 /// Bursts as (time, channel, number): what is handed on, as (time, place).
 fn order(alloc: Global, reorder: u64, came: &[u64]) -> Result<Vec<u64>, AllocError> {
     let mut order = ChannelOrder::new(alloc, reorder);
@@ -41,23 +49,15 @@ fn order(alloc: Global, reorder: u64, came: &[u64]) -> Result<Vec<u64>, AllocErr
     for one in came.chunks_exact(3) {
         if let [time, channel, number] = one {
             for _ in 0..order.len() {
-                if let Some(next) = order.next(*time) {
-                    answers.push(next.time)?;
-                    answers.push(next.arrival.item)?;
-                }
+                put_next(&mut answers, order.next(*time))?;
             }
-            if let Some(next) = order.push(arrival(*time, *channel, *number, item))? {
-                answers.push(next.time)?;
-                answers.push(next.arrival.item)?;
-            }
+            let last = order.push(arrival(*time, *channel, *number, item))?;
+            put_next(&mut answers, last)?;
             item = item.wrapping_add(1);
         }
     }
     for _ in 0..order.len() {
-        if let Some(next) = order.next_left() {
-            answers.push(next.time)?;
-            answers.push(next.arrival.item)?;
-        }
+        put_next(&mut answers, order.next_left())?;
     }
     Ok(answers)
 }
@@ -65,9 +65,8 @@ fn order(alloc: Global, reorder: u64, came: &[u64]) -> Result<Vec<u64>, AllocErr
 /// What a beginning that has ended is: 1, its first number, whether it is anew, and what was kept.
 fn put_begun(answers: &mut Vec<u64>, begun: Option<Begun<u64>>) -> Result<(), AllocError> {
     if let Some(begun) = begun {
-        answers.push(1)?;
-        answers.push(u64::from(begun.first))?;
-        answers.push(u64::from(begun.is_anew))?;
+        let (first, is_anew) = (u64::from(begun.first), u64::from(begun.is_anew));
+        answers.extend_from_slice(&[1, first, is_anew])?;
         for one in &begun.kept {
             answers.push(one.arrival.item)?;
         }

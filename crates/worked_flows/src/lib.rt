@@ -6,7 +6,7 @@
 #![tactic(auto)]
 
 #[cfg(test)]
-mod flows;
+mod core_events;
 #[cfg(test)]
 mod lanes;
 #[cfg(test)]

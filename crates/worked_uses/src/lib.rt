@@ -5,9 +5,13 @@
 #![tactic(auto)]
 
 #[cfg(test)]
-mod burst;
+mod backward_flow;
 #[cfg(test)]
 mod byte_source;
+#[cfg(test)]
+mod checked_bursts;
+#[cfg(test)]
+mod closed_flow;
 #[cfg(test)]
 mod cut_joined_again;
 #[cfg(test)]
@@ -15,20 +19,16 @@ mod delivery_flows;
 #[cfg(test)]
 mod delivery_run;
 #[cfg(test)]
+mod fed_bursts;
+#[cfg(test)]
 mod five_senders;
 #[cfg(test)]
-mod flow;
-#[cfg(test)]
 mod handed_on;
-#[cfg(test)]
-mod header_check;
 #[cfg(test)]
 mod losses_by_rule;
 #[cfg(test)]
 mod midstream;
 #[cfg(test)]
-mod one_flow;
+mod ordered_items;
 #[cfg(test)]
 mod run_caller;
-#[cfg(test)]
-mod window;

@@ -6,8 +6,8 @@ use Rattle.std.specs.List.{list_any}
 use Rattle.std.specs.HashSet.{contains}
 use Rattle.capture_map.specs.Fault.{IsLineFault}
 use Rattle.capture_map.specs.Reading.{Said, said_by, with_line, fault_in_place, HasFault}
-use Rattle.capture_map.specs.declared.fault.LineFault.{LineFault}
-use Rattle.capture_map.specs.declared.line.MapLine.{MapLine}
+use Rattle.capture_map.specs.declared.map_fault.LineFault.{LineFault}
+use Rattle.capture_map.specs.declared.map_line.MapLine.{MapLine}
 use Rattle.capture_map.specs.declared.reading.Reading.{Reading}
 
 -- the reading has what the lines say, and has seen their identifiers

@@ -7,7 +7,7 @@ use Rattle.texts.specs.declared.follow.happening.Happening.{Happening}
 use Rattle.texts.specs.declared.follow.settings.FollowSettings.{FollowSettings}
 use Rattle.texts.specs.Follow.{lines_told}
 use Rattle.texts.specs.Inside.TraceInput.{TraceState, nothing_taken, HasTakenLines}
-use Rattle.followed_traces.specs.declared.input.FollowInput.{FollowInput}
+use Rattle.followed_traces.specs.declared.follow_input.FollowInput.{FollowInput}
 use Rattle.followed_traces.specs.Inside.Watched.{AreOfBytes, ReceiverUnderWay, Watched, starts_watched, HasFollowed, IsNonePending}
 
 -- What the lines say, which is of bytes, was set up and followed, this was told, and these are the

@@ -1,8 +1,8 @@
 -- The set says whether a line above gives the channel and the service identifier.
 use Rattle.std.proofs.Common.{◌≡◌, ◌<◌, ◌==◌, ◌&&◌, true, cond, Some, None, List, length, sym, ap, subst, ◌∙◌, arith}
 use Rattle.std.specs.List.{list_any}
-use Rattle.capture_map.specs.declared.fault.MapKind.TheVariants.{SameSid}
-use Rattle.capture_map.specs.declared.line.MapLine.TheVariants.{Sid}
+use Rattle.capture_map.specs.declared.map_fault.MapKind.TheVariants.{SameSid}
+use Rattle.capture_map.specs.declared.map_line.MapLine.TheVariants.{Sid}
 use Rattle.capture_map.specs.declared.map.MapFlow.{MapFlow}
 use Rattle.capture_map.specs.declared.map.MapChannel.{MapChannel}
 use Rattle.capture_map.specs.declared.map.MapSid.{MapSid}

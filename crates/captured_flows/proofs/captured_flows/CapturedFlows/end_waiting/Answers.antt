@@ -1,7 +1,7 @@
 use Rattle.std.proofs.Common.{◌≡◌, List, length, sym, subst, ap, arith}
 use Rattle.std.specs.Vec.{with_items}
 use Rattle.std.proofs.lemmas.List.{with_items_is}
-use Rattle.captured_flows.specs.declared.flow.CapturedFlow.{CapturedFlow}
+use Rattle.captured_flows.specs.declared.flow_bursts.CapturedFlow.{CapturedFlow}
 use Rattle.captured_flows.specs.Captures.{EndsAll}
 use Rattle.captured_flows.specs.Together.{HaveWaits, views_of}
 use Rattle.captured_flows.proofs.Taken.{takes-as}

@@ -3,7 +3,7 @@ use Rattle.captured_flows.specs.Acts.{Act}
 use Rattle.capture_map.specs.declared.map.MapChannel.{MapChannel}
 use Rattle.std.specs.Vec.{with_items}
 use Rattle.std.proofs.lemmas.List.{with_items_is}
-use Rattle.captured_flows.specs.declared.flow.CapturedFlow.{CapturedFlow}
+use Rattle.captured_flows.specs.declared.flow_bursts.CapturedFlow.{CapturedFlow}
 use Rattle.captured_flows.specs.declared.captured_burst.CapturedBurst.{CapturedBurst}
 use Rattle.captured_flows.specs.Together.{HaveWaits, ComesAt, views_of}
 use Rattle.captured_flows.specs.declared.burst_taken.BurstTaken.TheVariants as taken

@@ -1,6 +1,6 @@
 use Rattle.std.proofs.Common.{◌≡◌, ◌<◌, ℕ, List, length, get_or, ap, ◌∙◌, refl}
 use Rattle.std.proofs.lemmas.List.{get_or_read}
-use Rattle.frame_comparison.specs.declared.counts.ComparedCounts.{ComparedCounts}
+use Rattle.frame_comparison.specs.declared.compared_counts.ComparedCounts.{ComparedCounts}
 use Rattle.frame_comparison.specs.Compared.{ended}
 use Rattle.frame_comparison.specs.Seen.{no_counts, with_counts, settled_counts, waiting_of}
 use Rattle.frame_comparison.proofs.Moves.{ended-counts}

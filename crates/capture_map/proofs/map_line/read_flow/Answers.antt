@@ -1,0 +1,9 @@
+-- As many fields as there have to be, and they say nothing.
+use Rattle.std.proofs.Common.{refl}
+use Rattle.text_lines.specs.Lines.{words_of}
+use Rattle.capture_map.proofs.NothingSaid.{SaysNothing-flow}
+use Rattle.capture_map.proofs.map_line.read_flow.Goals as goal
+
+pub returns-in-None-clause-fault : goal.returns-in-None-clause-fault
+returns-in-None-clause-fault c =
+    SaysNothing-flow (words_of c.args.rest.now) c.in-Some.sfid.now c.in-Some.first.now c.in-Some.window.now c.in-Some.clusters.now c.in-Some.ensures (c.in-None.ensures.none refl)

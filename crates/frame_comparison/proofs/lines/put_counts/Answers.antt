@@ -1,5 +1,0 @@
-use Rattle.text_lines.proofs.PutTexts.{puts-then}
-use Rattle.frame_comparison.proofs.lines.put_counts.Goals as goal
-
-pub returns : goal.returns
-returns g c = puts-then g.O.PutText.after (puts-then g.O.PutText.after (puts-then g.O.PutText.after (puts-then g.O.PutText.after (puts-then g.O.PutText.after (puts-then g.O.PutText.after c.put_word.ensures c.put_number.ensures) c.put_word-2.ensures) c.put_number-2.ensures) c.put_word-3.ensures) c.put_number-3.ensures) c.put_word-4.ensures

@@ -1,0 +1,7 @@
+-- The second flow runs and is drained.
+use Rattle.flow_core.specs.Flows.{IsDrainedAt}
+use Rattle.flow_core.specs.Giving.{IsRunning}
+use Rattle.worked_flows.proofs.core_events.drained_flows.appends.Given as goal
+
+abbrev pub invariant-loop-place : goal.invariant-loop-place
+invariant-loop-place g l = IsRunning g.C.HeaderCheck.accepts l.core 1 × IsDrainedAt l.core 1

@@ -1,6 +1,0 @@
--- The second flow runs.
-use Rattle.flow_core.specs.Giving.{IsRunning}
-use Rattle.worked_flows.proofs.flows.failed_allocations.drains_refused.finish.Given as goal
-
-abbrev pub invariant-loop-bytes : goal.invariant-loop-bytes
-invariant-loop-bytes g l = IsRunning g.C.HeaderCheck.accepts l.core 1
