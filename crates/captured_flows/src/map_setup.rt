@@ -12,11 +12,14 @@ use capture_map::{CaptureMap, MapFlow, MapSid};
 use docsis_wire::HeaderCheck;
 use flow_core::FlowRecord;
 use flow_selection::Selection;
-use lane::SidRow;
+use lane::{MOST_CHANNELS, SidRow};
 use loss_rule::LossRule;
 use receiver::{MOST_FLOWS, Receiver, Setup, SetupError, Width};
 use selected_receiver::SelectedReceiver;
 use std::alloc::{AllocError, Global};
+
+/// How many channels a receiver has: as many as there may be.
+const CHANNELS: u8 = MOST_CHANNELS as u8;
 
 /// The record of a flow. Where its first number isn't known it is 0: nothing is handed in before
 /// the flow begins, at another one.
@@ -95,7 +98,7 @@ pub(crate) fn flows_of(
     Ok(begun)
 }
 
-/// A receiver for a setup, of 16 channels and as many flows as there may be, of which these are
+/// A receiver for a setup, of as many channels and flows as there may be, of which these are
 /// joined.
 pub(crate) fn receiver_of<C: HeaderCheck + Drop>(
     alloc: Global,
@@ -110,7 +113,7 @@ pub(crate) fn receiver_of<C: HeaderCheck + Drop>(
     ensures selected { IfOk result (λ receiver. receiver.selected ≡ selected) }
     ensures fault { IfErr result (IsSetupErrorWithin 16 16384 setup.now) }
 {
-    match Width::new(16, MOST_FLOWS) {
+    match Width::new(CHANNELS, MOST_FLOWS) {
         Ok(width) => match Receiver::new(alloc, width, setup, rule, check) {
             Ok(receiver) => Ok(SelectedReceiver::new(receiver, selected)),
             Err(error) => Err(error),
