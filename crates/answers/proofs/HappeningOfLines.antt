@@ -14,8 +14,8 @@ use Rattle.receiver.specs.Entries.{Entry, came, decided}
 use Rattle.text_lines.specs.Capacities.{default_capacity}
 use Rattle.text_lines.specs.Format.{IsRead}
 use Rattle.text_lines.proofs.KeptByEachLine.{Keeps, IsRead-keeps}
-use Rattle.texts.specs.declared.trace.line.TraceLine.{TraceLine}
-use Rattle.texts.specs.declared.trace.line.TraceLine.TheVariants as line
+use Rattle.texts.specs.declared.trace.trace_line.TraceLine.{TraceLine}
+use Rattle.texts.specs.declared.trace.trace_line.TraceLine.TheVariants as line
 use Rattle.texts.specs.declared.follow.happening.Happening.{Happening}
 use Rattle.texts.specs.Happened.{HappenedBy}
 use Rattle.texts.specs.Trace.Line.{TraceShape, Carries, shape_of}

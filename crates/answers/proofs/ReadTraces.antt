@@ -15,8 +15,8 @@ use Rattle.receiver.proofs.Senders.{five}
 use Rattle.text_lines.specs.Field.{SpellsBytes}
 use Rattle.text_lines.specs.Format.{IsRead, no_lines, skipped, taken}
 use Rattle.text_lines.proofs.KeptByEachLine.{Keeps, IsRead-keeps}
-use Rattle.texts.specs.declared.trace.line.TraceLine.{TraceLine}
-use Rattle.texts.specs.declared.trace.line.TraceLine.TheVariants as line
+use Rattle.texts.specs.declared.trace.trace_line.TraceLine.{TraceLine}
+use Rattle.texts.specs.declared.trace.trace_line.TraceLine.TheVariants as line
 use Rattle.texts.specs.Trace.Line.{TraceShape, AreFields, Carries, burst_line, fields_after, values_of}
 use Rattle.texts.specs.Trace.Place.{Said, nothing_said, with_line, trace_format}
 use Rattle.texts.proofs.TraceTags.{read_of_channels, times_of-channel, times_of-decisions, tags_name_senders}

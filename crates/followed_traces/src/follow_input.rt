@@ -6,7 +6,7 @@ ghost use Rattle.text_lines.specs.Putting.{Puts};
 ghost use Rattle.texts.specs.Inside.SetupLines.{AddsTo};
 ghost use Rattle.texts.specs.Inside.StandIn.{MayStandFor};
 ghost use Rattle.texts.specs.Inside.TraceInput.{TraceState, HasTakenLines};
-ghost use Rattle.texts.specs.declared.trace.line.TraceLine.TheVariants as line;
+ghost use Rattle.texts.specs.declared.trace.trace_line.TraceLine.TheVariants as line;
 ghost use Rattle.followed_traces.specs.End.{IsFollowedTo, end_text};
 ghost use Rattle.followed_traces.specs.Inside.Watched.{Watched, starts_watched, HasFollowed};
 ghost use Rattle.followed_traces.specs.Inside.Watched.{would_be_followed};

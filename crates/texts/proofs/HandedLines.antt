@@ -11,8 +11,8 @@ use Rattle.text_lines.specs.declared.fault.TraceFault.{TraceFault}
 use Rattle.text_lines.specs.Format.{IsRead, no_lines, skipped, taken, IsFirstFaultyLine}
 use Rattle.text_lines.specs.Inside.LineFault.{IsLineFault}
 use Rattle.text_lines.specs.Kinds.{IsLeastFault}
-use Rattle.texts.specs.declared.trace.line.TraceLine.{TraceLine}
-use Rattle.texts.specs.declared.trace.line.TraceLine.TheVariants as line
+use Rattle.texts.specs.declared.trace.trace_line.TraceLine.{TraceLine}
+use Rattle.texts.specs.declared.trace.trace_line.TraceLine.TheVariants as line
 use Rattle.texts.specs.Trace.Line.{TraceShape, flow_line, sid_line, word_of, Carries}
 use Rattle.texts.specs.Trace.Place.{Said, HasFaultAmong, trace_format}
 use Rattle.texts.specs.Inside.SetupLines.{SetupSoFar, HasSetup, HasMore, SetsUp, AddsTo}

@@ -6,8 +6,8 @@ use Rattle.lane.specs.declared.input.Input.{Input}
 use Rattle.lane.specs.declared.input.Input.TheVariants.{Grant, Burst}
 use Rattle.text_lines.specs.declared.fault.TraceKind.{TraceKind}
 use Rattle.text_lines.specs.declared.fault.TraceKind.TheVariants.{UnknownLine, FieldCount, BadNumber, BadWord, NotHex}
-use Rattle.texts.specs.declared.trace.line.TraceLine.{TraceLine}
-use Rattle.texts.specs.declared.trace.line.TraceLine.TheVariants as line
+use Rattle.texts.specs.declared.trace.trace_line.TraceLine.{TraceLine}
+use Rattle.texts.specs.declared.trace.trace_line.TraceLine.TheVariants as line
 use Rattle.texts.specs.Trace.Line.{TraceShape, FieldForm, number_in, check_word, hex_field, LineForm, flow_line, sid_line, grant_line, burst_line, gap_line, gap_to_line, word_of, fields_after, Value, a_number, a_check, some_bytes, SaysCheck, IsField, AreFields, gap_form, upto_values, form_of, values_of, HasRing, Carries, HasBadAmong, HasBadField, HasFaultByItself}
 use Rattle.texts.proofs.FirstField.{one_word, same_after}
 use Rattle.texts.proofs.OneJoinLine.{one_spelling}

@@ -26,8 +26,8 @@ use Rattle.text_lines.specs.declared.fault.TraceKind.{TraceKind}
 use Rattle.text_lines.specs.declared.fault.TraceKind.TheVariants.{UnknownLine, SetupLate, FieldCount, BadNumber, BadWord, NotHex, UnknownFlow, TooManyFlows, SameFlow, SameSid, TooShort, PointerPast}
 use Rattle.text_lines.specs.Inside.LineFault.{IsLineFault}
 use Rattle.text_lines.specs.Kinds.{IsLeastFault}
-use Rattle.texts.specs.declared.trace.line.TraceLine.{TraceLine}
-use Rattle.texts.specs.declared.trace.line.TraceLine.TheVariants as line
+use Rattle.texts.specs.declared.trace.trace_line.TraceLine.{TraceLine}
+use Rattle.texts.specs.declared.trace.trace_line.TraceLine.TheVariants as line
 use Rattle.texts.specs.Trace.Line.{Carries, flow_line, sid_line, burst_line, word_of}
 use Rattle.texts.specs.Trace.Place.{Said, HasFaultAmong, SaysFaulty, HasLineFault, with_line}
 use Rattle.texts.specs.Replay.{IsSetupOf, IsPlayedBy}

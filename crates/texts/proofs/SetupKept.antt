@@ -22,8 +22,8 @@ use Rattle.text_lines.specs.declared.fault.LineFault.{LineFault}
 use Rattle.text_lines.specs.declared.fault.TraceKind.{TraceKind}
 use Rattle.text_lines.specs.declared.fault.TraceKind.TheVariants.{TooManyFlows, SameFlow}
 use Rattle.text_lines.specs.Kinds.{kind_number, IsLeastFault}
-use Rattle.texts.specs.declared.trace.line.TraceLine.{TraceLine}
-use Rattle.texts.specs.declared.trace.line.TraceLine.TheVariants as line
+use Rattle.texts.specs.declared.trace.trace_line.TraceLine.{TraceLine}
+use Rattle.texts.specs.declared.trace.trace_line.TraceLine.TheVariants as line
 use Rattle.texts.specs.declared.trace.reading.Reading.{Reading}
 use Rattle.texts.specs.Trace.{AreListsOf}
 use Rattle.texts.specs.Trace.Line.{TraceShape}

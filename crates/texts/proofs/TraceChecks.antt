@@ -10,8 +10,8 @@ use Rattle.text_lines.specs.declared.fault.TraceKind.{TraceKind}
 use Rattle.text_lines.specs.declared.fault.TraceKind.TheVariants.{UnknownFlow, TooManyFlows, SameFlow, SameSid}
 use Rattle.text_lines.specs.Format.{IsRead}
 use Rattle.text_lines.proofs.KeptByEachLine.{Keeps, IsRead-keeps}
-use Rattle.texts.specs.declared.trace.line.TraceLine.{TraceLine}
-use Rattle.texts.specs.declared.trace.line.TraceLine.TheVariants as line
+use Rattle.texts.specs.declared.trace.trace_line.TraceLine.{TraceLine}
+use Rattle.texts.specs.declared.trace.trace_line.TraceLine.TheVariants as line
 use Rattle.texts.specs.Trace.Line.{TraceShape, profile_shape, flow_line, fields_after, AreFields, values_of, Carries}
 use Rattle.texts.specs.Trace.Place.{Said, nothing_said, nothing_said_in, with_line, HasFaultAmong, trace_format}
 use Rattle.texts.proofs.OneTraceLine.{sid_in_range}

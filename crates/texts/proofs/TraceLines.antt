@@ -3,7 +3,7 @@ use Rattle.std.proofs.Common.{◌≡◌, ℕ, ◌<◌, ◌≤◌, ◌⊎◌, inl
 use Rattle.text_lines.specs.declared.fault.TraceKind.{TraceKind}
 use Rattle.text_lines.specs.declared.fault.TraceKind.TheVariants.{UnknownLine, SetupLate, FieldCount, BadNumber, BadWord, NotHex, UnknownFlow, TooManyFlows, SameFlow, SameSid, TooShort, PointerPast}
 use Rattle.text_lines.specs.Kinds.{kind_number, IsLeastFault}
-use Rattle.texts.specs.declared.trace.line.TraceLine.{TraceLine}
+use Rattle.texts.specs.declared.trace.trace_line.TraceLine.{TraceLine}
 use Rattle.texts.specs.Trace.Line.{flow_line, sid_line, word_of, Carries}
 use Rattle.texts.specs.Trace.Place.{Said, IsSetupLine, HasFaultAmong, SaysFaulty, HasLineFault}
 use Rattle.texts.specs.Inside.TraceLine.{IsLeastFaultByItself}

@@ -23,8 +23,8 @@ use Rattle.text_lines.specs.declared.fault.LineFault.{LineFault}
 use Rattle.text_lines.specs.declared.fault.LineFault.TheVariants as line_fault
 use Rattle.text_lines.specs.Inside.LineFault.{IsLineFault}
 use Rattle.text_lines.specs.Kinds.{IsLeastFault}
-use Rattle.texts.specs.declared.trace.line.TraceLine.{TraceLine}
-use Rattle.texts.specs.declared.trace.line.TraceLine.TheVariants as line
+use Rattle.texts.specs.declared.trace.trace_line.TraceLine.{TraceLine}
+use Rattle.texts.specs.declared.trace.trace_line.TraceLine.TheVariants as line
 use Rattle.texts.specs.declared.trace.reading.Reading.{Reading}
 use Rattle.texts.specs.Trace.{AreListsOf}
 use Rattle.texts.specs.Trace.Line.{TraceShape, flow_line, sid_line, word_of, Carries}

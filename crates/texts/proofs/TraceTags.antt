@@ -14,8 +14,8 @@ use Rattle.receiver.specs.AdmittedOrder.{input_counts}
 use Rattle.text_lines.specs.Format.{IsRead}
 use Rattle.text_lines.proofs.KeptByEachLine.{Keeps, IsRead-keeps}
 use Rattle.texts.specs.declared.trace.Trace.{Trace}
-use Rattle.texts.specs.declared.trace.line.TraceLine.{TraceLine}
-use Rattle.texts.specs.declared.trace.line.TraceLine.TheVariants as line
+use Rattle.texts.specs.declared.trace.trace_line.TraceLine.{TraceLine}
+use Rattle.texts.specs.declared.trace.trace_line.TraceLine.TheVariants as line
 use Rattle.texts.specs.Trace.{IsGivenBy}
 use Rattle.texts.specs.Trace.Line.{Carries}
 use Rattle.texts.specs.Trace.Place.{Said, nothing_said, with_line, trace_format}

@@ -5,8 +5,8 @@ use Rattle.lane.specs.declared.sids.SidRow.{SidRow}
 use Rattle.receiver.specs.Entries.{Entry, came, decided}
 use Rattle.text_lines.specs.Lines.{fields_of}
 use Rattle.text_lines.specs.Format.{IsRead, no_lines, skipped, taken}
-use Rattle.texts.specs.declared.trace.line.TraceLine.{TraceLine}
-use Rattle.texts.specs.declared.trace.line.TraceLine.TheVariants as line
+use Rattle.texts.specs.declared.trace.trace_line.TraceLine.{TraceLine}
+use Rattle.texts.specs.declared.trace.trace_line.TraceLine.TheVariants as line
 use Rattle.texts.specs.Trace.Line.{TraceShape, FieldForm, number_in, check_word, hex_field, LineForm, flow_line, sid_line, grant_line, burst_line, gap_line, gap_to_line, fields_after, Value, a_number, a_check, some_bytes, IsField, AreFields, form_of, values_of, Carries, HasRing}
 use Rattle.texts.specs.Trace.Place.{Said, nothing_said_in, with_line, AddsLine, trace_format}
 use Rattle.texts.proofs.OneTrace.{trace_is_determined}

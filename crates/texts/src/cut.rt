@@ -12,12 +12,12 @@ ghost use Rattle.texts.specs.Cut.Line.{nothing, cut_format};
 ghost use Rattle.texts.specs.Cut.{IsCutText, IsCutFault, CannotCut, IsPrinted, PutsCut};
 ghost use Rattle.texts.specs.Cut.{segment_line, cut_text_length};
 
-mod line;
+mod cut_line;
 
+use cut_line::{CutLine, read_cut_line};
 use docsis_wire::{
     Bytes, Cutter, FillByte, HEADER_BYTES, NoCheck, Piece, SegmentParts, write_segment,
 };
-use line::{CutLine, read_cut_line};
 use std::alloc::{AllocError, Global};
 use text_lines::{
     LineFault, ParseFault, PutText, TakeLine, TextBuffer, TextFault, put_hex, take_lines,

@@ -3,11 +3,11 @@ ghost use Rattle.std.specs.Prelude.{◌≡◌, ◌↔◌, flat_map, IsTrue, IfOk
 ghost use Rattle.text_lines.specs.Putting.{Puts};
 ghost use Rattle.texts.specs.Join.{IsJoined, IsJoinFault, frame_line};
 
-mod line;
+mod join_line;
 
 use ccf::Joiner;
 use docsis_wire::{Bytes, NoCheck};
-use line::read_segment;
+use join_line::read_segment;
 use std::alloc::Global;
 use text_lines::{LineFault, PutText, TakeLine, TextBuffer, TextFault, put_hex, take_lines};
 

@@ -3,10 +3,10 @@
 use receiver::{Lists, Setup};
 
 mod input;
-mod line;
 mod reading;
 mod setup_lines;
 mod taking;
+mod trace_line;
 
 pub use input::TraceInput;
 pub use reading::{Reading, parse_trace};

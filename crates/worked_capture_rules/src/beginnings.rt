@@ -6,26 +6,26 @@ use std::test::Fail;
 const WAIT: u64 = 1000;
 
 /// A burst that is handed on as it came.
-fn one(time: u64, number: u16) -> HandedOn<u16> {
+fn one(time: u64, number: u16) -> HandedOn<u64> {
     HandedOn {
         time,
         arrival: Arrival {
             time,
             channel: 0,
             number: number % 8192,
-            item: number,
+            item: u64::from(number),
         },
     }
 }
 
 /// What a beginning has come to: its first number, whether it is anew, and how many were kept.
-fn come_to(begun: Option<Begun<u16>>) -> Option<(u16, bool, usize)> {
+fn come_to(begun: Option<Begun<u64>>) -> Option<(u16, bool, usize)> {
     let begun = begun?;
     Some((begun.first, begun.is_anew, begun.kept.len()))
 }
 
 /// What is handed on.
-fn item(next: Option<HandedOn<u16>>) -> Option<u16> {
+fn item(next: Option<HandedOn<u64>>) -> Option<u64> {
     Some(next?.arrival.item)
 }
 

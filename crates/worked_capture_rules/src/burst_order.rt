@@ -7,10 +7,10 @@ use std::test::Fail;
 const REORDER: u64 = 100;
 
 /// What is handed on: when, and which burst by its place among all that came.
-type Handed = (u64, usize);
+type Handed = (u64, u64);
 
 /// When a burst is handed on, and which.
-fn told(next: Option<HandedOn<usize>>) -> Option<Handed> {
+fn told(next: Option<HandedOn<u64>>) -> Option<Handed> {
     let next = next?;
     Some((next.time, next.arrival.item))
 }
@@ -20,8 +20,9 @@ fn told(next: Option<HandedOn<usize>>) -> Option<Handed> {
 fn handed_on(alloc: Global, came: &[(u64, usize, u16)]) -> Result<Vec<Handed>, AllocError> {
     let mut order = ChannelOrder::new(alloc, REORDER);
     let mut handed = Vec::new(alloc);
-    for (item, (time, channel, number)) in came.iter().enumerate() {
-        for _ in 0..=item {
+    let mut item = 0;
+    for (time, channel, number) in came {
+        for _ in came {
             match told(order.next(*time)) {
                 Some(next) => handed.push(next)?,
                 None => break,
@@ -36,6 +37,7 @@ fn handed_on(alloc: Global, came: &[(u64, usize, u16)]) -> Result<Vec<Handed>, A
         if let Some(next) = told(last) {
             handed.push(next)?;
         }
+        item = item.wrapping_add(1);
     }
     for _ in came {
         match told(order.next_left()) {
@@ -126,18 +128,18 @@ fn all_that_waits_goes_where_the_clock_is_set_back(rt: HostRuntime) -> Result<()
 #[test]
 fn so_many_wait_where_the_clock_stands_still(rt: HostRuntime) -> Result<(), Fail> {
     let mut order = ChannelOrder::new(rt.alloc(), REORDER);
-    for item in 0..5000_u16 {
+    for item in 0..5000_u64 {
         assert!(rt; order.next(7).is_none());
         // Neighbours come the other way round.
         let last = order.push(Arrival {
             time: 7,
             channel: 0,
-            number: (item ^ 1) % 8192,
+            number: ((item ^ 1) % 8192) as u16,
             item,
         })?;
         match item.checked_sub(2048) {
             None => assert!(rt; last.is_none()),
-            Some(passed) => assert!(rt; last.is_some_and(|next| next.arrival.number == passed)),
+            Some(passed) => assert!(rt; told(last) == Some((7, passed ^ 1))),
         }
     }
     assert!(rt; order.len() == MOST_WAITING);
@@ -161,7 +163,7 @@ fn how_often_a_clock_is_set_back_is_counted(rt: HostRuntime) -> Result<(), Fail>
             time: *time,
             channel: 0,
             number: number as u16,
-            item: (),
+            item: 0_u64,
         })?;
         assert!(rt; last.is_none());
     }

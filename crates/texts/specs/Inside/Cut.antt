@@ -1,7 +1,7 @@
 -- What a line of `cut` carries.
 use Rattle.std.specs.Prelude.{ℕ, List}
-use Rattle.texts.specs.declared.cut.line.CutLine.{CutLine}
-use Rattle.texts.specs.declared.cut.line.CutLine.TheVariants as cut_line
+use Rattle.texts.specs.declared.cut.cut_line.CutLine.{CutLine}
+use Rattle.texts.specs.declared.cut.cut_line.CutLine.TheVariants as cut_line
 use Rattle.texts.specs.Cut.Line.{CarriesFrame, CarriesPiece}
 
 -- the fields carry this frame, or this piece

@@ -11,8 +11,8 @@ use Rattle.text_lines.specs.declared.fault.LineFault.{LineFault}
 use Rattle.text_lines.specs.declared.fault.TraceKind.{TraceKind}
 use Rattle.text_lines.specs.Inside.LineFault.{IsLineFault}
 use Rattle.text_lines.specs.Kinds.{IsLeastFault}
-use Rattle.texts.specs.declared.trace.line.TraceLine.{TraceLine}
-use Rattle.texts.specs.declared.trace.line.TraceLine.TheVariants as line
+use Rattle.texts.specs.declared.trace.trace_line.TraceLine.{TraceLine}
+use Rattle.texts.specs.declared.trace.trace_line.TraceLine.TheVariants as line
 use Rattle.texts.specs.Trace.Line.{TraceShape, Carries}
 use Rattle.texts.specs.Trace.Place.{Said, IsSfidAmong, IsSidAbove, HasFaultAmong, with_line}
 

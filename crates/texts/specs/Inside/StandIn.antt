@@ -3,7 +3,7 @@ use Rattle.std.specs.Prelude.{◌≡◌, ◌⊎◌, ℕ, Bool, false, Option, So
 use Rattle.lane.specs.declared.input.Input.{Input}
 use Rattle.receiver.specs.declared.width.Width.{Width}
 use Rattle.receiver.specs.Elsewhere.{LooksLike}
-use Rattle.texts.specs.declared.trace.line.TraceLine.TheVariants as line
+use Rattle.texts.specs.declared.trace.trace_line.TraceLine.TheVariants as line
 use Rattle.texts.specs.Trace.Line.{shape_of, Carries}
 
 module _ {P : Type 0} (would_come : P → ℕ → Input → Option ℕ → Type 0) (selected : ℕ → Bool) where

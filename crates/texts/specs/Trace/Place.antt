@@ -7,8 +7,8 @@ use Rattle.text_lines.specs.declared.fault.TraceKind.{TraceKind}
 use Rattle.text_lines.specs.declared.fault.TraceKind.TheVariants.{UnknownLine, SetupLate, FieldCount, BadNumber, BadWord, NotHex, UnknownFlow, TooManyFlows, SameFlow, SameSid, TooShort, PointerPast}
 use Rattle.text_lines.specs.Kinds.{IsLeastFault}
 use Rattle.text_lines.specs.Format.{Format}
-use Rattle.texts.specs.declared.trace.line.TraceLine.{TraceLine}
-use Rattle.texts.specs.declared.trace.line.TraceLine.TheVariants as line
+use Rattle.texts.specs.declared.trace.trace_line.TraceLine.{TraceLine}
+use Rattle.texts.specs.declared.trace.trace_line.TraceLine.TheVariants as line
 use Rattle.texts.specs.Trace.Line.{TraceShape, profile_shape, LineForm, flow_line, sid_line, word_of, Carries, HasFaultByItself}
 
 -- What some lines say: the flows, the rows of service identifiers, and what the input lines say,

@@ -3,9 +3,9 @@ ghost use Rattle.std.specs.Prelude.{◌≡◌, true};
 ghost use Rattle.text_lines.specs.Capacities.{default_capacity};
 ghost use Rattle.texts.specs.Trace.Line.{shape_of};
 
-use super::line::{PeekedBurst, TraceLine, is_setup_word, peek_burst};
 use super::setup_lines::SetupLines;
 use super::taking::TakeEntries;
+use super::trace_line::{PeekedBurst, TraceLine, is_setup_word, peek_burst};
 use docsis_wire::{Bytes, HEADER_BYTES};
 use flow_selection::Selection;
 use lane::Input;
@@ -34,7 +34,7 @@ impl<P: TakeEntries + Drop> TraceInput<P> {
     ghost use Rattle.std.specs.Prelude.{IsTrue, IsFalse, IfOk, IfErr, IfSome};
     ghost use Rattle.flow_selection.specs.Selection.{is_selected};
     ghost use Rattle.text_lines.specs.Lines.{words_of};
-    ghost use Rattle.texts.specs.declared.trace.line.TraceLine.TheVariants as line;
+    ghost use Rattle.texts.specs.declared.trace.trace_line.TraceLine.TheVariants as line;
     ghost use Rattle.texts.specs.Replay.{IsSetupOf};
     ghost use Rattle.texts.specs.Trace.Line.{word_of, flow_line, sid_line, burst_line};
     ghost use Rattle.texts.specs.Inside.TraceInput.{TraceState, nothing_taken, HasTakenLines};

@@ -6,8 +6,8 @@ ghost use Rattle.texts.specs.Trace.{IsTrace, IsTraceFault};
 ghost use Rattle.texts.specs.Trace.Line.{word_of, flow_line, sid_line};
 
 use super::Trace;
-use super::line::{TraceLine, is_setup_word};
 use super::setup_lines::SetupLines;
+use super::trace_line::{TraceLine, is_setup_word};
 use lane::Input;
 use receiver::{Decision, Lists, Width};
 use std::alloc::{AllocError, Global};

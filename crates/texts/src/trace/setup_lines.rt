@@ -8,9 +8,9 @@ ghost use Rattle.text_lines.specs.Lines.{words_of};
 ghost use Rattle.texts.specs.Inside.SetupLines.{HasSetup, IsCarried, AddsTo};
 ghost use Rattle.texts.specs.Inside.TraceLine.{IsLeastFaultByItself};
 ghost use Rattle.texts.specs.Trace.Line.{Carries};
-ghost use Rattle.texts.specs.declared.trace.line.TraceLine.TheVariants as line;
+ghost use Rattle.texts.specs.declared.trace.trace_line.TraceLine.TheVariants as line;
 
-use super::line::{TraceLine, read_trace_line};
+use super::trace_line::{TraceLine, read_trace_line};
 use flow_core::FlowRecord;
 use lane::{SidRow, SidTable};
 use receiver::{Setup, Width};

@@ -6,7 +6,7 @@ use Rattle.flow_selection.specs.Selection.{is_selected}
 use Rattle.lane.specs.declared.input.Input.{Input}
 use Rattle.text_lines.specs.Capacities.{default_capacity}
 use Rattle.text_lines.specs.Lines.{words_of}
-use Rattle.texts.specs.declared.trace.line.TraceLine.TheVariants as line
+use Rattle.texts.specs.declared.trace.trace_line.TraceLine.TheVariants as line
 use Rattle.texts.specs.Trace.Line.{TraceShape, word_of, burst_line, Carries}
 use Rattle.texts.specs.Inside.InPlace.{IsInPlaceOf, other_lines}
 use Rattle.texts.specs.Inside.Replayed.{would_be_replayed}

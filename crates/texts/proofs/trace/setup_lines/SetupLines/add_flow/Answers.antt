@@ -1,6 +1,6 @@
 use Rattle.std.proofs.Common.{◌≡◌, ◌<◌, ◌++◌, ◌∷◌, [], true, length, refl, sym, ap, subst, ◌∙◌, arith}
 use Rattle.flow_records.proofs.SeenIdentifiers.{was-new}
-use Rattle.texts.specs.declared.trace.line.TraceLine.TheVariants as line
+use Rattle.texts.specs.declared.trace.trace_line.TraceLine.TheVariants as line
 use Rattle.texts.specs.Trace.Line.{TraceShape, shape_of}
 use Rattle.texts.specs.Inside.SetupLines.{SetupSoFar, setup_said, IsCarried}
 use Rattle.texts.proofs.SetupKept.{said_of_setup, flow_set_up, sfid_not_above}

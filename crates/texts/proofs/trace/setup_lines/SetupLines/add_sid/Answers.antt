@@ -1,5 +1,5 @@
 use Rattle.std.proofs.Common.{refl, sym, ap, subst, ◌∙◌, ◌++◌, ◌∷◌, [], arith}
-use Rattle.texts.specs.declared.trace.line.TraceLine.TheVariants as line
+use Rattle.texts.specs.declared.trace.trace_line.TraceLine.TheVariants as line
 use Rattle.texts.specs.Trace.Line.{TraceShape, shape_of}
 use Rattle.texts.specs.Inside.SetupLines.{SetupSoFar, setup_said, IsCarried}
 use Rattle.texts.proofs.SetupKept.{row_in_range, said_of_setup, not_above, sid_set_up}

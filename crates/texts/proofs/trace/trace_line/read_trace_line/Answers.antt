@@ -1,7 +1,7 @@
 -- A line's first word says which form it has.
 use Rattle.std.proofs.Common.{◌≡◌, rules}
 use Rattle.texts.specs.Trace.Line.{shape_of, burst_line, grant_line, gap_line, flow_line, sid_line, word_of}
-use Rattle.texts.proofs.trace.line.read_trace_line.Goals as goal
+use Rattle.texts.proofs.trace.trace_line.read_trace_line.Goals as goal
 
 pub returns-then-eq-clause-fault : goal.returns-then-eq-clause-fault
 returns-then-eq-clause-fault c =

@@ -3,7 +3,7 @@ use Rattle.std.proofs.lemmas.Result.{err_from_is_err_and}
 use Rattle.text_lines.specs.Lines.{words_of}
 use Rattle.texts.specs.Trace.Line.{a_number, flow_line}
 use Rattle.texts.proofs.TraceLineFaults.{miscounted, number_fault}
-use Rattle.texts.proofs.trace.line.read_flow.Goals as goal
+use Rattle.texts.proofs.trace.trace_line.read_flow.Goals as goal
 
 pub returns-in_default-clause-fault : goal.returns-in_default-clause-fault
 returns-in_default-clause-fault c = λ shape. miscounted shape flow_line (words_of c.args.rest.now) tt c.in_default.ensures

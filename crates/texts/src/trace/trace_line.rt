@@ -9,7 +9,7 @@ ghost use Rattle.texts.specs.Trace.Line.{word_of, IsField, IsBadField};
 ghost use Rattle.texts.specs.Trace.Line.{TraceShape, shape_of, Carries};
 ghost use Rattle.texts.specs.Trace.Line.{channel_number, flow_number};
 ghost use Rattle.texts.specs.Inside.TraceLine.{IsLeastFaultByItself};
-ghost use Rattle.texts.specs.declared.trace.line.TraceLine.TheVariants as line;
+ghost use Rattle.texts.specs.declared.trace.trace_line.TraceLine.TheVariants as line;
 
 use docsis_wire::{Bytes, SEQUENCE_MODULUS};
 use flow_core::{CLUSTERS_MAX, FlowRecord, WINDOW_MAX};

@@ -11,7 +11,7 @@ use Rattle.text_lines.specs.Inside.LineFault.{IsLineFault}
 use Rattle.texts.specs.Trace.Line.{TraceShape, shape_of, word_of, a_number, a_check, burst_line}
 use Rattle.texts.specs.Inside.TraceLine.{IsLeastFaultByItself}
 use Rattle.texts.proofs.TraceLineFaults.{miscounted, number_fault, check_fault, hex_fault, IsBadField-hex}
-use Rattle.texts.proofs.trace.line.read_burst.Goals as goal
+use Rattle.texts.proofs.trace.trace_line.read_burst.Goals as goal
 
 -- behind three words there are no four where there isn't one
 none_behind : (shape : TraceShape) (words behind : List (List ℕ)) (channel number check : List ℕ) (fault : LineFault) → words ≡ channel ∷ number ∷ check ∷ behind

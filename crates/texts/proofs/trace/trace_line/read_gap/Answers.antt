@@ -3,7 +3,7 @@ use Rattle.std.proofs.lemmas.Result.{err_from_is_err_and}
 use Rattle.text_lines.specs.Lines.{words_of}
 use Rattle.texts.specs.Trace.Line.{shape_of, word_of, a_number, gap_line, gap_to_line}
 use Rattle.texts.proofs.TraceLineFaults.{miscounted_gap, number_fault}
-use Rattle.texts.proofs.trace.line.read_gap.Goals as goal
+use Rattle.texts.proofs.trace.trace_line.read_gap.Goals as goal
 
 pub returns-in_err-flow-clause-fault : goal.returns-in_err-flow-clause-fault
 returns-in_err-flow-clause-fault c = λ ring.

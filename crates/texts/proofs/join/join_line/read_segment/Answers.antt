@@ -4,7 +4,7 @@ use Rattle.text_lines.specs.Lines.{words_of}
 use Rattle.text_lines.specs.Field.{SpellsBytes}
 use Rattle.texts.specs.Join.Line.{OnlySpells}
 use Rattle.texts.proofs.JoinLineFaults.{no_segment}
-use Rattle.texts.proofs.join.line.read_segment.Goals as goal
+use Rattle.texts.proofs.join.join_line.read_segment.Goals as goal
 
 pub returns-in_err-read-clause-fault : goal.returns-in_err-read-clause-fault
 returns-in_err-read-clause-fault c =
