@@ -5,6 +5,7 @@ import os
 import pty
 import select
 import shlex
+import signal
 import subprocess
 import time
 
@@ -60,6 +61,8 @@ def terminal_in(folder):
         yield terminal
     finally:
         os.close(terminal)
+        # Killed, so that nothing is waited for where it doesn't end with its terminal.
+        os.kill(child, signal.SIGKILL)
         os.waitpid(child, 0)
 
 

@@ -1,4 +1,4 @@
-//! The words of lines.
+//! Words with their numbers, as lines have them.
 ghost use Rattle.std.specs.Prelude.{[], ◌∷◌, ◌++◌, flat_map};
 ghost use Rattle.text_lines.specs.Lines.{line_feed};
 ghost use Rattle.text_lines.specs.Putting.{Puts};

@@ -1,7 +1,7 @@
 -- Where there is room for some there is room for fewer.
 use Rattle.std.proofs.Common.{◌≡◌, ℕ, ◌+◌, ◌-◌, ◌≤◌, ◌<◌, arith, subst}
-use Rattle.registered_map.specs.declared.registered_flows.Flows.{Flows}
-use Rattle.registered_map.specs.declared.registered_sids.Sids.{Sids}
+use Rattle.registered_map.specs.declared.named_flows.Flows.{Flows}
+use Rattle.registered_map.specs.declared.sid_owners.Sids.{Sids}
 use Rattle.registered_map.specs.declared.registered_map.RegisteredMap.{RegisteredMap}
 use Rattle.registered_map.specs.Inside.Room.{FlowsHaveRoom, SidsHaveRoom, HasRoom}
 

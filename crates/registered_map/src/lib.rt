@@ -20,13 +20,13 @@
 #![tactic(auto)]
 
 mod map_text;
-mod registered_flows;
+mod named_flows;
 mod registered_map;
-mod registered_sids;
 mod remarks;
+mod sid_owners;
 mod telling;
 mod telling_text;
-mod whole_message;
+mod told_message;
 
 pub use map_text::put_map;
 pub use registered_map::RegisteredMap;

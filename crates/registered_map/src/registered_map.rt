@@ -9,11 +9,11 @@ ghost use Rattle.registered_map.specs.Registered.{with_action, with_told, with_m
 ghost use Rattle.registered_map.specs.Holding.{registered_in, captured};
 ghost use Rattle.registered_map.specs.Inside.Room.{HasRoom};
 
-use crate::registered_flows::Flows;
-use crate::registered_sids::Sids;
+use crate::named_flows::Flows;
 use crate::remarks::Remarks;
+use crate::sid_owners::Sids;
 use crate::telling::{RegisteredChannel, RegisteredSid, Remark, RemarkKind, Telling};
-use crate::whole_message::told_in;
+use crate::told_message::told_in;
 use capture_map::{MOST_CHANNELS, MOST_FLOWS, SID_MAX};
 use flow_records::CLUSTERS_MAX;
 use registrations::{Action, ChannelSid, Told, WholeMessage};

@@ -1,4 +1,4 @@
-//! The words of a map's lines.
+//! What a line of a map says of where it was told: the modem, the message and the time.
 ghost use Rattle.std.specs.Prelude.{flat_map};
 ghost use Rattle.text_lines.specs.Putting.{Puts};
 ghost use Rattle.registered_map.specs.MapText.{colon_octet, modem_text, message_text, telling_text};

@@ -1,4 +1,5 @@
 //! Where flows begin and begin anew.
+use crate::handed::told;
 use capture_rules::{Arrival, BEGINNING, Beginning, Begun, HandedOn, MOST_WAITING};
 use std::test::Fail;
 
@@ -24,11 +25,6 @@ fn come_to(begun: Option<Begun<u64>>) -> Option<(u16, bool, usize)> {
     Some((begun.first, begun.is_anew, begun.kept.len()))
 }
 
-/// What is handed on.
-fn item(next: Option<HandedOn<u64>>) -> Option<u64> {
-    Some(next?.arrival.item)
-}
-
 #[test]
 fn a_first_number_is_the_least(rt: HostRuntime) -> Result<(), Fail> {
     let mut flow = Beginning::new(rt.alloc(), WAIT, false);
@@ -46,7 +42,7 @@ fn a_first_number_is_the_least(rt: HostRuntime) -> Result<(), Fail> {
     let begun = come_to(flow.end_at(rt.alloc(), BEGINNING + 1));
     assert!(rt; begun == Some((8190, false, 4)));
     let next = flow.hand_on(one(BEGINNING + 1, 9), 4, 16)?;
-    assert!(rt; item(next) == Some(9));
+    assert!(rt; told(next) == Some((BEGINNING + 1, 9)));
     Ok(())
 }
 

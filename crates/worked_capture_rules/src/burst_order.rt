@@ -1,19 +1,11 @@
 //! The order on each channel.
-use capture_rules::{Arrival, ChannelOrder, ClockCounts, HandedOn, MOST_WAITING};
+use crate::handed::{Handed, told};
+use capture_rules::{Arrival, ChannelOrder, ClockCounts, MOST_WAITING};
 use std::alloc::{AllocError, Global};
 use std::test::Fail;
 
 /// Bursts wait for so many nanoseconds.
 const REORDER: u64 = 100;
-
-/// What is handed on: when, and which burst by its place among all that came.
-type Handed = (u64, u64);
-
-/// When a burst is handed on, and which.
-fn told(next: Option<HandedOn<u64>>) -> Option<Handed> {
-    let next = next?;
-    Some((next.time, next.arrival.item))
-}
 
 /// What is handed on of bursts that come so: when, on which channel, under which number. After the
 /// last one comes all that waits.
@@ -22,7 +14,7 @@ fn handed_on(alloc: Global, came: &[(u64, usize, u16)]) -> Result<Vec<Handed>, A
     let mut handed = Vec::new(alloc);
     let mut item = 0;
     for (time, channel, number) in came {
-        for _ in came {
+        for _ in 0..=item {
             match told(order.next(*time)) {
                 Some(next) => handed.push(next)?,
                 None => break,
@@ -139,7 +131,11 @@ fn so_many_wait_where_the_clock_stands_still(rt: HostRuntime) -> Result<(), Fail
         })?;
         match item.checked_sub(2048) {
             None => assert!(rt; last.is_none()),
-            Some(passed) => assert!(rt; told(last) == Some((7, passed ^ 1))),
+            Some(passed) => {
+                let next = last.ok_or("the oldest one")?;
+                assert!(rt; u64::from(next.arrival.number) == passed);
+                assert!(rt; next.arrival.item == passed ^ 1);
+            }
         }
     }
     assert!(rt; order.len() == MOST_WAITING);

@@ -1,12 +1,8 @@
 //! Each allocation is refused once: what was handed in is given back, and all is as it was.
+use crate::handed::told;
 use capture_rules::{Arrival, Beginning, ChannelOrder, HandedOn, HeldTime, HeldTimes};
 use std::alloc::AllocError;
 use std::test::Fail;
-
-/// Which burst is handed on.
-fn item(next: Option<HandedOn<u64>>) -> Option<u64> {
-    Some(next?.arrival.item)
-}
 
 /// A burst that comes at time 0 on channel 0.
 fn arrival(number: u16) -> Arrival<u64> {
@@ -29,7 +25,7 @@ fn a_burst_waits_the_next_time(rt: HostRuntime) -> Result<(), Fail> {
         }
         assert!(rt; order.len() == usize::from(number) + 1);
     }
-    assert!(rt; item(order.next_left()) == Some(0));
+    assert!(rt; told(order.next_left()) == Some((0, 0)));
     Ok(())
 }
 
@@ -44,14 +40,14 @@ fn many_bursts_are_handed_on_after_a_refusal(rt: HostRuntime) -> Result<(), Fail
         }
     }
     for number in 1..=200_u16 {
-        assert!(rt; item(order.next_left()) == Some(u64::from(number)));
+        assert!(rt; told(order.next_left()) == Some((0, u64::from(number))));
         // There is room for as many as waited, so nothing is asked for.
         let pushed = order.push(arrival(number.wrapping_add(200)));
         assert!(rt; matches!(pushed, Ok(None)));
         assert!(rt; order.len() == 200);
     }
     for number in 201..=400_u64 {
-        assert!(rt; item(order.next_left()) == Some(number));
+        assert!(rt; told(order.next_left()) == Some((0, number)));
     }
     assert!(rt; order.next_left().is_none());
     Ok(())

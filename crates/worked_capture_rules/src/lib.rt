@@ -11,6 +11,8 @@ mod burst_order;
 #[cfg(test)]
 mod failed_allocations;
 #[cfg(test)]
+mod handed;
+#[cfg(test)]
 mod held_segments;
 #[cfg(test)]
 mod many;

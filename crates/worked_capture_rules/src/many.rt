@@ -197,7 +197,7 @@ fn handed_alike(alloc: Global, kind: &Kind, dice: &mut Dice) -> Result<u64, Allo
     Ok(alike)
 }
 
-/// Kinds that differ in one thing or two from this one.
+/// A kind from which others differ in one thing or two.
 const PLAIN: Kind = Kind {
     reorder: 1000,
     channels: 3,
@@ -209,6 +209,7 @@ const PLAIN: Kind = Kind {
     count: 300,
 };
 
+/// Kinds by their names.
 const KINDS: [(&str, Kind); 16] = [
     ("plain", PLAIN),
     (

@@ -1,8 +1,8 @@
 -- Room for what is told next.
 use Rattle.std.specs.Prelude.{ℕ, ◌+◌, ◌≤◌, vec_len, vec_capacity}
 use Rattle.std.specs.HashMap.{spare}
-use Rattle.registered_map.specs.declared.registered_flows.Flows.{Flows}
-use Rattle.registered_map.specs.declared.registered_sids.Sids.{Sids}
+use Rattle.registered_map.specs.declared.named_flows.Flows.{Flows}
+use Rattle.registered_map.specs.declared.sid_owners.Sids.{Sids}
 use Rattle.registered_map.specs.declared.remarks.Remarks.{Remarks}
 use Rattle.registered_map.specs.declared.registered_map.RegisteredMap.{RegisteredMap}
 

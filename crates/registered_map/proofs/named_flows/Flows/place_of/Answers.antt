@@ -1,7 +1,7 @@
 use Rattle.std.proofs.Common.{◌==◌, ◌∙◌, None, refl, arith}
 use Rattle.registered_map.specs.declared.telling.RegisteredFlow.{RegisteredFlow}
 use Rattle.registered_map.proofs.Places.{position-none}
-use Rattle.registered_map.proofs.registered_flows.Flows.place_of.Goals as goal
+use Rattle.registered_map.proofs.named_flows.Flows.place_of.Goals as goal
 
 pub returns-in-None : goal.returns-in-None
 returns-in-None c =

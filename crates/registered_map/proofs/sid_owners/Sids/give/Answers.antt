@@ -1,7 +1,7 @@
 use Rattle.std.proofs.Common.{ap, sym, ◌∙◌, arith}
 use Rattle.registered_map.specs.Places.{owner_of}
 use Rattle.registered_map.proofs.Places.{ok_ensures, owner_of-push}
-use Rattle.registered_map.proofs.registered_sids.Sids.give.Goals as goal
+use Rattle.registered_map.proofs.sid_owners.Sids.give.Goals as goal
 
 pub invariant_of-self : goal.invariant_of-self
 invariant_of-self c =

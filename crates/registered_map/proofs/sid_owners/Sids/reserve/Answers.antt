@@ -1,6 +1,6 @@
 use Rattle.std.proofs.Common.{◌∙◌, sym, ap}
 use Rattle.registered_map.specs.Places.{owner_of}
-use Rattle.registered_map.proofs.registered_sids.Sids.reserve.Goals as goal
+use Rattle.registered_map.proofs.sid_owners.Sids.reserve.Goals as goal
 
 pub invariant_of-self-2 : goal.invariant_of-self-2
 invariant_of-self-2 c = record {
