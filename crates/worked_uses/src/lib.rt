@@ -1,7 +1,7 @@
 //! What the small programs of `uses` do, on cases that were worked out by hand: their tests.
 //!
 //! They stand apart from that crate, so that it is proved once and not a second time with its
-//! tests. There is nothing here for a caller. A file here has the name of the program that it calls,
+//! tests. There is nothing here for a caller. A file has the name of the program that it calls,
 //! but for `ordered_items` (`window`), `backward_flow` (`flow`), `fed_bursts` (`burst`),
 //! `checked_bursts` (`header_check`) and `closed_flow` (`one_flow`).
 #![tactic(auto)]
